@@ -1,0 +1,4 @@
+pub mod Table
+pub mod Digits
+pub mod Residues
+pub mod SquareLaws

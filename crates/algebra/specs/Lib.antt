@@ -1,0 +1,9 @@
+pub mod Structures
+pub mod Codec
+pub mod Faults
+pub mod Bytes
+pub mod Numbered
+pub mod Modular
+pub mod Mod251
+pub mod Powers
+pub mod Squares
