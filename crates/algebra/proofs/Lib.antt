@@ -1,4 +1,7 @@
 pub mod Table
-pub mod Digits
+pub mod BigEndian
 pub mod Residues
 pub mod SquareLaws
+pub mod Summing
+pub mod Reading
+pub mod Writing

@@ -10,7 +10,7 @@ use Rattle.std.proofs.shelf.Tests.{lt-ltb, le-ltb}
 use Rattle.algebra.specs.Structures.{IsField}
 use Rattle.algebra.specs.Powers.{mod-mul-mod, mul-mod-mod}
 use Rattle.algebra.specs.Modular.{Residue, residue, modular, below-p}
-use Rattle.algebra.proofs.Digits.{Numbers, if-passes, if-fails, passed-from}
+use Rattle.algebra.proofs.BigEndian.{Numbers, if-passes, if-fails, passed-from}
 
 -- one number is one residue
 same-residue : {p : ℕ} (m n : ℕ) → m ≡ n → (h : m < p) (k : n < p) → residue m h ≡ residue n k

@@ -10,11 +10,11 @@ use native.Mathlib.Omega.{arith}
 use lib.Dec.{ltb, eqb}
 use lib.Pow.{pow-add}
 use Rattle.std.proofs.shelf.Tests.{lt-ltb, eq-eqb, and-from}
-use Rattle.algebra.specs.Structures.{IsGroup, IsSpace}
+use Rattle.algebra.specs.Structures.{IsGroup, SpaceOps, with-multiples, OverSum, OverAdd, OverMul, ByOne}
 use Rattle.algebra.specs.Powers.{mod-mul-mod, mul-mod-mod, both-mod, pow-mod, mul-pow, pow-mul, pow-order}
-use Rattle.algebra.specs.Mod251.{field251}
+use Rattle.algebra.specs.Mod251.{Mod251, field251}
 use Rattle.algebra.specs.Squares.{Square, square, squares, power, is-square, square-at}
-use Rattle.algebra.proofs.Digits.{Numbers, if-passes, if-fails, passed-from}
+use Rattle.algebra.proofs.BigEndian.{Numbers, if-passes, if-fails, passed-from}
 
 same-square : (m n : ℕ) → m ≡ n → (h : m < 503) (u : m ^ 251 % 503 ≡ 1) (k : n < 503) (v : n ^ 251 % 503 ≡ 1) → square m h u ≡ square n k v
 same-square m n e h u = subst (λ t. (k : t < 503) (v : t ^ 251 % 503 ≡ 1) → square m h u ≡ square t k v) e (λ k v. ap (λ l. square m l u) (le-prop h k) ∙ ap (square m k) (ℕ-set _ _ u v))
@@ -33,13 +33,21 @@ squares-group = record {
   add-neg = λ x. by-value _ _ (mul-mod-mod (x .value) (x .value ^ 250) 503 ∙ ap q (mul-comm (x .value) (x .value ^ 250) ∙ sym (pow-suc (x .value) 250)) ∙ x .unit);
 }
 
-pub squares-space : IsSpace field251 squares (λ s. power (s .value))
-squares-space = record {
-  over-sum = λ s v w. by-value _ _ (pow-mod (v .value * w .value) 503 (s .value) ∙ ap q (mul-pow (v .value) (w .value) (s .value)) ∙ sym (both-mod (v .value ^ s .value) (w .value ^ s .value) 503));
-  over-add = λ s t v. by-value _ _ (pow-order (v .value) 503 251 (s .value + t .value) (v .unit) refl ∙ ap q (pow-add (v .value) (s .value) (t .value)) ∙ sym (both-mod (v .value ^ s .value) (v .value ^ t .value) 503));
-  over-mul = λ s t v. by-value _ _ (pow-order (v .value) 503 251 (s .value * t .value) (v .unit) refl ∙ ap q (ap (λ k. v .value ^ k) (mul-comm (s .value) (t .value)) ∙ pow-mul (v .value) (t .value) (s .value)) ∙ sym (pow-mod (v .value ^ t .value) 503 (s .value)));
-  by-one = λ v. by-value _ _ (ap q (pow-suc (v .value) 0 ∙ ap (λ t. t * v .value) (pow-zero (v .value)) ∙ one-mul (v .value)) ∙ mod-eq-of-lt (v .below));
-}
+-- The four laws that join the squares to the integers modulo 251.
+abbrev space : SpaceOps Mod251 Square
+space = with-multiples squares (λ s. power (s .value))
+
+pub over-sum : OverSum field251 space
+over-sum s v w = by-value _ _ (pow-mod (v .value * w .value) 503 (s .value) ∙ ap q (mul-pow (v .value) (w .value) (s .value)) ∙ sym (both-mod (v .value ^ s .value) (w .value ^ s .value) 503))
+
+pub over-add : OverAdd field251 space
+over-add s t v = by-value _ _ (pow-order (v .value) 503 251 (s .value + t .value) (v .unit) refl ∙ ap q (pow-add (v .value) (s .value) (t .value)) ∙ sym (both-mod (v .value ^ s .value) (v .value ^ t .value) 503))
+
+pub over-mul : OverMul field251 space
+over-mul s t v = by-value _ _ (pow-order (v .value) 503 251 (s .value * t .value) (v .unit) refl ∙ ap q (ap (λ k. v .value ^ k) (mul-comm (s .value) (t .value)) ∙ pow-mul (v .value) (t .value) (s .value)) ∙ sym (pow-mod (v .value ^ t .value) 503 (s .value)))
+
+pub by-one : ByOne field251 space
+by-one v = by-value _ _ (ap q (pow-suc (v .value) 0 ∙ ap (λ t. t * v .value) (pow-zero (v .value)) ∙ one-mul (v .value)) ∙ mod-eq-of-lt (v .below))
 
 pub found : (x : Square) → square-at (x .value) ≡ some x
 found x = if-passes (is-square (x .value)) _ x (λ e. by-value _ _ refl)

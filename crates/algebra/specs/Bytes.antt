@@ -1,7 +1,7 @@
--- One element at the front of a byte list: reading and writing it. Assumes nothing.
+-- Reading and writing one element at the front of a byte list, and reading one thing after another. Assumes nothing.
 use mathlib.Core.Path.{_≡_}
 use mathlib.Core.Bool.{cond}
-use mathlib.Core.List.{List, _++_}
+use mathlib.Core.List.{List, [], _∷_, _++_}
 use mathlib.Core.Option.{Option, none, some}
 use Prim.Native.Nat.{ℕ, _≤_, _<_}
 use lib.Dec.{leb}
@@ -25,6 +25,16 @@ element-at at none = Err (NotElement at)
 -- The element whose encoding begins the bytes, for a field that begins at `at`; what follows is ignored.
 unfoldable pub read-one : {X : Type 0} → Codec X → ℕ → List ℕ → Result X ByteFault
 read-one c at bytes = cond (leb (c .size) (length bytes)) (element-at at (c .decode (take (c .size) bytes))) (Err (Ends at))
+
+-- The byte that begins the bytes.
+abbrev pub read-byte : ℕ → List ℕ → Result ℕ ByteFault
+read-byte at [] = Err (Ends at)
+read-byte at (b ∷ bytes) = Ok b
+
+-- What was read goes on to the next step; a refusal stands.
+abbrev pub and-then : {X Y : Type 0} → Result X ByteFault → (X → Result Y ByteFault) → Result Y ByteFault
+and-then (Ok x) f = f x
+and-then (Err e) f = Err e
 
 -- The encoding was written to the front of `before`, which was long enough, or nothing was changed.
 pub record Written (code before after : List ℕ) (r : Result ℕ ByteFault) : Type 0 where

@@ -3,14 +3,21 @@ use mathlib.Core.Path.{_≡_, refl}
 use mathlib.Core.Bool.{Bool, true, false, cond, _&&_}
 use mathlib.Core.List.{List, [], _∷_, _++_}
 use mathlib.Core.Option.{Option, none, some}
-use Prim.Native.Nat.{ℕ, zero, suc, _+_, _*_, _/_, _%_}
+use Prim.Native.Nat.{ℕ, zero, suc, _+_, _*_, _/_, _%_, _^_, _<_, _≤_}
 use lib.Dec.{eqb}
+use lib.ListN.{length, take}
 use Rattle.algebra.specs.Codec.{Codec}
 
 -- The last `w` digits of n in base 256.
 abbrev pub big-endian : ℕ → ℕ → List ℕ
 big-endian zero n = []
 big-endian (suc w) n = big-endian w (n / 256) ++ (n % 256 ∷ [])
+
+-- The bytes begin with the `w` digits of n.
+pub record Digits (w : ℕ) (bytes : List ℕ) (n : ℕ) : Type 0 where
+  pub long : w ≤ length bytes
+  pub digits : take w bytes ≡ big-endian w n
+  pub fits : n < 256 ^ w
 
 -- The number whose digits in base 256 are those of `high` and then the bytes.
 abbrev pub number-after : ℕ → List ℕ → ℕ

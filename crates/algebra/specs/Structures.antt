@@ -34,31 +34,39 @@ pub record IsGroup {V : Type 0} (g : GroupOps V) : Type 0 where
   pub add-zero : (x : V) → g .add x (g .zero) ≡ x
   pub add-neg : (x : V) → g .add x (g .neg x) ≡ g .zero
 
--- The four laws that join the multiples s v to the field and the group.
-module _ {E V : Type 0} (K : FieldOps E) (g : GroupOps V) (scale : E → V → V) where
+-- A space: elements with sums, and with multiples by the numbers of E.
+pub record SpaceOps (E V : Type 0) : Type 0 where
+  pub zero : V
+  pub add : V → V → V
+  pub neg : V → V
+  pub scale : E → V → V
+
+-- A group with multiples.
+abbrev pub with-multiples : {E V : Type 0} → GroupOps V → (E → V → V) → SpaceOps E V
+with-multiples g scale = record { zero = g .zero; add = g .add; neg = g .neg; scale = scale }
+
+-- The sums of a field.
+abbrev pub additive : {E : Type 0} → FieldOps E → GroupOps E
+additive K = record { zero = K .zero; add = K .add; neg = K .neg }
+
+-- A field as a space over itself: its multiples are its products.
+abbrev pub over-itself : {E : Type 0} → FieldOps E → SpaceOps E E
+over-itself K = with-multiples (additive K) (K .mul)
+
+-- The four laws that join a space to its numbers.
+module _ {E V : Type 0} (K : FieldOps E) (S : SpaceOps E V) where
   -- s (v + w) = s v + s w
   abbrev pub OverSum : Type 0
-  OverSum = (s : E) (v w : V) → scale s (g .add v w) ≡ g .add (scale s v) (scale s w)
+  OverSum = (s : E) (v w : V) → S .scale s (S .add v w) ≡ S .add (S .scale s v) (S .scale s w)
 
   -- (s + t) v = s v + t v
   abbrev pub OverAdd : Type 0
-  OverAdd = (s t : E) (v : V) → scale (K .add s t) v ≡ g .add (scale s v) (scale t v)
+  OverAdd = (s t : E) (v : V) → S .scale (K .add s t) v ≡ S .add (S .scale s v) (S .scale t v)
 
   -- (s × t) v = s (t v)
   abbrev pub OverMul : Type 0
-  OverMul = (s t : E) (v : V) → scale (K .mul s t) v ≡ scale s (scale t v)
+  OverMul = (s t : E) (v : V) → S .scale (K .mul s t) v ≡ S .scale s (S .scale t v)
 
   -- 1 v = v
   abbrev pub ByOne : Type 0
-  ByOne = (v : V) → scale (K .one) v ≡ v
-
-  -- All four: the group is a space over the field.
-  pub record IsSpace : Type 0 where
-    pub over-sum : OverSum
-    pub over-add : OverAdd
-    pub over-mul : OverMul
-    pub by-one : ByOne
-
--- The sums of a field, whose multiples are its products: a field is a space over itself.
-abbrev pub additive : {E : Type 0} → FieldOps E → GroupOps E
-additive K = record { zero = K .zero; add = K .add; neg = K .neg }
+  ByOne = (v : V) → S .scale (K .one) v ≡ v

@@ -1,10 +1,10 @@
 // Bytes at the front of a slice: what encodings of elements are written and read by.
 ghost use mathlib.Core.Path.{_≡_};
-ghost use Prim.Native.Nat.{ℕ, _^_, _<_, _≤_};
-ghost use lib.ListN.{length, take};
+ghost use Prim.Native.Nat.{_<_, _≤_};
+ghost use lib.ListN.{length, drop};
 ghost use Rattle.std.specs.declared.option.Option.the-variants.{Some, None};
-ghost use Rattle.algebra.specs.Bytes.{Written};
-ghost use Rattle.algebra.specs.Numbered.{big-endian};
+ghost use Rattle.algebra.specs.Bytes.{Written, read-byte};
+ghost use Rattle.algebra.specs.Numbered.{Digits};
 use crate::fault::ByteFault;
 
 // Writes the code to the front of the output.
@@ -19,19 +19,30 @@ pub fn put(code: &[u8], out: &mut [u8]) -> Result<usize, ByteFault>
     Ok(n)
 }
 
-// The number in the first `width` bytes, highest first; none if there are fewer.
-pub(crate) fn front(bytes: &[u8], width: usize) -> Option<u64>
+// The number in the `width` bytes that begin at `at`, highest first; none if the bytes end before.
+pub(crate) fn number_at(bytes: &[u8], at: usize, width: usize) -> Option<u64>
     requires { ⌜ width ≤ 7 ⌝ }
     ensures { λ r. ⌜ elim r [
-        Some n ↦ (width ≤ length (now (bytes .entry))) × (take width (now (bytes .entry)) ≡ big-endian width n) × (n < 256 ^ width)
-      | None ↦ length (now (bytes .entry)) < width ] ⌝ }
+        Some n ↦ Digits width (drop at (now (bytes .entry))) n
+      | None ↦ length (drop at (now (bytes .entry))) < width ] ⌝ }
 {
-    if bytes.len() < width {
+    let left = bytes.len().saturating_sub(at);
+    if left < width {
         return None;
     }
     let mut n = 0u64;
     for i in 0..width {
-        n = n * 256 + bytes[i] as u64;
+        n = n * 256 + bytes[at + i] as u64;
     }
     Some(n)
+}
+
+// The byte at `at`.
+pub(crate) fn byte_at(bytes: &[u8], at: usize) -> Result<u8, ByteFault>
+    ensures { λ r. ⌜ r ≡ read-byte at (drop at (now (bytes .entry))) ⌝ }
+{
+    if at >= bytes.len() {
+        return Err(ByteFault::Ends(at));
+    }
+    Ok(bytes[at])
 }

@@ -2,6 +2,7 @@
 ghost use mathlib.Core.Path.{_≡_};
 ghost use Prim.Native.Nat.{ℕ, _≤_};
 ghost use lib.Dec.{T};
+ghost use lib.ListN.{drop};
 ghost use Rattle.algebra.specs.Structures.{FieldOps, IsField};
 ghost use Rattle.algebra.specs.Codec.{Codec, IsCodec};
 ghost use Rattle.algebra.specs.Bytes.{Written, meant, read-one};
@@ -61,9 +62,9 @@ pub trait Field: Copy {
         ensures yes { λ r. ⌜ (T r → means self ≡ means other) ⌝ }
         ensures back { λ r. ⌜ (means self ≡ means other → T r) ⌝ };
 
-    // The element whose encoding begins the bytes; what follows is ignored.
-    fn read(bytes: &[u8]) -> Result<Self, ByteFault>
-        ensures { λ r. ⌜ meant means r ≡ read-one codec 0 (now (bytes .entry)) ⌝ };
+    // The element whose encoding begins at `at`; what follows is ignored.
+    fn read(bytes: &[u8], at: usize) -> Result<Self, ByteFault>
+        ensures { λ r. ⌜ meant means r ≡ read-one codec at (drop at (now (bytes .entry))) ⌝ };
 
     // Writes the encoding to the front of the output, and answers its length.
     fn write(self, out: &mut [u8]) -> Result<usize, ByteFault>

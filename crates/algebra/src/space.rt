@@ -2,7 +2,8 @@
 ghost use mathlib.Core.Path.{_≡_};
 ghost use Prim.Native.Nat.{ℕ, _≤_};
 ghost use lib.Dec.{T};
-ghost use Rattle.algebra.specs.Structures.{GroupOps, IsGroup, OverSum, OverAdd, OverMul, ByOne};
+ghost use lib.ListN.{drop};
+ghost use Rattle.algebra.specs.Structures.{GroupOps, IsGroup, with-multiples, OverSum, OverAdd, OverMul, ByOne};
 ghost use Rattle.algebra.specs.Codec.{Codec, IsCodec};
 ghost use Rattle.algebra.specs.Bytes.{Written, meant, read-one};
 use crate::fault::ByteFault;
@@ -56,9 +57,9 @@ pub trait Space: Copy {
         ensures yes { λ r. ⌜ (T r → means self ≡ means other) ⌝ }
         ensures back { λ r. ⌜ (means self ≡ means other → T r) ⌝ };
 
-    // The element whose encoding begins the bytes; what follows is ignored.
-    fn read(bytes: &[u8]) -> Result<Self, ByteFault>
-        ensures { λ r. ⌜ meant means r ≡ read-one codec 0 (now (bytes .entry)) ⌝ };
+    // The element whose encoding begins at `at`; what follows is ignored.
+    fn read(bytes: &[u8], at: usize) -> Result<Self, ByteFault>
+        ensures { λ r. ⌜ meant means r ≡ read-one codec at (drop at (now (bytes .entry))) ⌝ };
 
     // Writes the encoding to the front of the output, and answers its length.
     fn write(self, out: &mut [u8]) -> Result<usize, ByteFault>
@@ -68,17 +69,17 @@ pub trait Space: Copy {
 
     // s (v + w) = s v + s w
     fn scale_over_sum()
-        ensures { λ _. ⌜ OverSum (Scalar·Field .field) group (λ s. times (Scalar·Field .pick s)) ⌝ };
+        ensures { λ _. ⌜ OverSum (Scalar·Field .field) (with-multiples group (λ s. times (Scalar·Field .pick s))) ⌝ };
 
     // (s + t) v = s v + t v
     fn scale_over_add()
-        ensures { λ _. ⌜ OverAdd (Scalar·Field .field) group (λ s. times (Scalar·Field .pick s)) ⌝ };
+        ensures { λ _. ⌜ OverAdd (Scalar·Field .field) (with-multiples group (λ s. times (Scalar·Field .pick s))) ⌝ };
 
     // (s × t) v = s (t v)
     fn scale_over_mul()
-        ensures { λ _. ⌜ OverMul (Scalar·Field .field) group (λ s. times (Scalar·Field .pick s)) ⌝ };
+        ensures { λ _. ⌜ OverMul (Scalar·Field .field) (with-multiples group (λ s. times (Scalar·Field .pick s))) ⌝ };
 
     // 1 v = v
     fn scale_by_one()
-        ensures { λ _. ⌜ ByOne (Scalar·Field .field) group (λ s. times (Scalar·Field .pick s)) ⌝ };
+        ensures { λ _. ⌜ ByOne (Scalar·Field .field) (with-multiples group (λ s. times (Scalar·Field .pick s))) ⌝ };
 }

@@ -86,12 +86,12 @@ pub impl Field for Mod251 as Mod251Field {
         self.value == other.value
     }
 
-    fn read(bytes: &[u8]) -> Result<Mod251, ByteFault> {
-        let Some(value) = bytes::front(bytes, Self::SIZE) else {
-            return Err(ByteFault::Ends(0));
+    fn read(bytes: &[u8], at: usize) -> Result<Mod251, ByteFault> {
+        let Some(value) = bytes::number_at(bytes, at, Self::SIZE) else {
+            return Err(ByteFault::Ends(at));
         };
         let Some(element) = Mod251::new(value) else {
-            return Err(ByteFault::NotElement(0));
+            return Err(ByteFault::NotElement(at));
         };
         Ok(element)
     }

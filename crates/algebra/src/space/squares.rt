@@ -10,6 +10,8 @@ use crate::field::mod251::Mod251;
 use crate::field::mod251::Mod251Field;
 use crate::space::Space;
 
+pub mod bench;
+
 #[derive(Clone, Copy)]
 pub struct Square {
     value: u16,
@@ -102,12 +104,12 @@ pub impl Space for Square as SquareSpace {
         self.value == other.value
     }
 
-    fn read(bytes: &[u8]) -> Result<Square, ByteFault> {
-        let Some(value) = bytes::front(bytes, Self::SIZE) else {
-            return Err(ByteFault::Ends(0));
+    fn read(bytes: &[u8], at: usize) -> Result<Square, ByteFault> {
+        let Some(value) = bytes::number_at(bytes, at, Self::SIZE) else {
+            return Err(ByteFault::Ends(at));
         };
         let Some(element) = Square::new(value) else {
-            return Err(ByteFault::NotElement(0));
+            return Err(ByteFault::NotElement(at));
         };
         Ok(element)
     }

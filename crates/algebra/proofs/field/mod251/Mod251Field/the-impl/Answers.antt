@@ -5,7 +5,7 @@ use lib.Dec.{eqb, eqb→eq, lit<, lit≤}
 use Rattle.algebra.specs.Modular.{Residue}
 use Rattle.algebra.specs.Mod251.{inverse251}
 use Rattle.algebra.proofs.Table.{below}
-use Rattle.algebra.proofs.Digits.{numbers-encode}
+use Rattle.algebra.proofs.BigEndian.{numbers-encode}
 use Rattle.algebra.proofs.Residues.{modular-field, residue-numbers}
 use Rattle.algebra.proofs.field.mod251.Mod251Field.the-impl.Needs as need
 

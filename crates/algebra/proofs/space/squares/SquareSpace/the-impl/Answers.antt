@@ -1,5 +1,5 @@
 use Rattle.algebra.specs.Squares.{Square, square-at}
-use Rattle.algebra.proofs.Digits.{numbers-encode}
+use Rattle.algebra.proofs.BigEndian.{numbers-encode}
 use Rattle.algebra.proofs.SquareLaws.{squares-group, square-numbers}
 use Rattle.algebra.proofs.space.squares.SquareSpace.the-impl.Needs as need
 

@@ -14,7 +14,7 @@ use Rattle.std.specs.declared.result.Result.the-variants.{Ok, Err}
 use Rattle.algebra.specs.declared.fault.ByteFault.the-variants.{Ends, NotElement}
 use Rattle.algebra.specs.Codec.{Codec, IsCodec}
 use Rattle.algebra.specs.Bytes.{read-one, element-at}
-use Rattle.algebra.specs.Numbered.{big-endian, number-after, same-bytes, by-number, if-passed}
+use Rattle.algebra.specs.Numbered.{Digits, big-endian, number-after, same-bytes, by-number, if-passed}
 
 same-bytes-refl : (xs : List ℕ) → same-bytes xs xs ≡ true
 same-bytes-refl [] = refl
@@ -76,12 +76,12 @@ module _ {X : Type 0} (w : ℕ) (number : X → ℕ) (find : ℕ → Option X) w
   }
 
   -- Reading where the bytes begin with the digits of n: the element that n is, or a refusal.
-  module _ (bytes : List ℕ) (at n : ℕ) (digits : (w ≤ length bytes) × (take w bytes ≡ big-endian w n) × (n < 256 ^ w)) where
+  module _ (bytes : List ℕ) (at n : ℕ) (d : Digits w bytes n) where
     read-number : read-one (by-number w number find) at bytes ≡ element-at at (find n)
     unfolding read-one
     read-number =
-        cond-true (leb w (length bytes)) _ _ (le-leb w (length bytes) (digits .0))
-        ∙ ap (element-at at) (ap (by-number w number find .decode) (digits .1) ∙ decode-at n (digits .2))
+        cond-true (leb w (length bytes)) _ _ (le-leb w (length bytes) (d .long))
+        ∙ ap (element-at at) (ap (by-number w number find .decode) (d .digits) ∙ decode-at n (d .fits))
 
     pub read-some : (x : X) → number x ≡ n → find (number x) ≡ some x → read-one (by-number w number find) at bytes ≡ Ok x
     read-some x e f = read-number ∙ ap (element-at at) (ap find (sym e) ∙ f)
