@@ -1,5 +1,6 @@
 // A claim: litres times fat points, summed over the loads, gives one total under one commitment.
 ghost use mathlib.Core.Path.{_≡_};
+ghost use lib.Dec.{T};
 ghost use Rattle.algebra.specs.Bytes.{Written, meant};
 ghost use Rattle.algebra.specs.Claims.{claim-of, encode-claim, read-claim, claim-size, AcceptsClaims};
 use crate::bytes;
@@ -60,5 +61,16 @@ impl<F: Field, G: Space<Scalar = F>> Claim<F, G> {
             log_len,
         };
         Ok((claim, log_len_at + 1))
+    }
+
+    // Whether both mean one claim.
+    pub fn same(self, other: Claim<F, G>) -> bool
+        ensures yes { λ r. ⌜ (T r → claim-of (F·Field .means) (G·Space .means) self ≡ claim-of (F·Field .means) (G·Space .means) other) ⌝ }
+        ensures back { λ r. ⌜ (claim-of (F·Field .means) (G·Space .means) self ≡ claim-of (F·Field .means) (G·Space .means) other → T r) ⌝ }
+    {
+        self.commitment.same(other.commitment)
+            && self.product.same(other.product)
+            && self.y.same(other.y)
+            && self.log_len == other.log_len
     }
 }

@@ -1,1 +1,2 @@
 pub mod PowersOfTwo
+pub mod Answering

@@ -1,0 +1,4 @@
+// Makes a day's claim.
+mod day;
+
+fn main() {}
