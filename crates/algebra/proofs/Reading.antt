@@ -20,9 +20,10 @@ use Rattle.algebra.specs.Claims.{ClaimOf, encode-claim, product-at, y-at, log-
 
 -- Of two codes one after the other, each begins where it should.
 pub split-codes : (n m : ℕ) (bytes xs ys : List ℕ) → length xs ≡ n → take (n + m) bytes ≡ xs ++ ys → (take n bytes ≡ xs) × (take m (drop n bytes) ≡ ys)
-split-codes n m bytes xs ys long e =
-    ( sym (take-take n (n + m) bytes (omega arith)) ∙ ap (take n) e ∙ take-at xs ys n long
-    , sym (drop-take n m bytes) ∙ ap (drop n) e ∙ drop-at xs ys n long )
+split-codes n m bytes xs ys long e = (
+  sym (take-take n (n + m) bytes (omega arith)) ∙ ap (take n) e ∙ take-at xs ys n long,
+  sym (drop-take n m bytes) ∙ ap (drop n) e ∙ drop-at xs ys n long,
+)
 
 pub join-codes : (n m : ℕ) (bytes xs ys : List ℕ) → take n bytes ≡ xs → take m (drop n bytes) ≡ ys → take (n + m) bytes ≡ xs ++ ys
 join-codes n m bytes xs ys e d = take-add n m bytes ∙ ap (λ t. t ++ take m (drop n bytes)) e ∙ ap (λ t. xs ++ t) d
@@ -119,13 +120,14 @@ module _ {E V : Type 0} (n : Codec E) (e : Codec V) (numbers : IsCodec n) (eleme
       let code-p = read-only e elements 0 bytes (p .0) (p .1) in
       let code-m = read-only n numbers (product-at n e) (drop (product-at n e) bytes) (m .0) (m .1) in
       let code-y = ap (take (n .size)) (sym past-product) ∙ read-only n numbers (y-at n e) (drop (y-at n e) bytes) (y .0) (y .1) in
-      let code-l = ap (take 1) (sym past-y) ∙ byte-only (log-len-at n e) (drop (log-len-at n e) bytes) (l .0) (l .1) in
-      ( sym (same .1)
-      , ap (λ t. take t bytes) sizes
-        ∙ join-codes (e .size) (n .size + (n .size + 1)) bytes _ _ code-p
+      let code-l = ap (take 1) (sym past-y) ∙ byte-only (log-len-at n e) (drop (log-len-at n e) bytes) (l .0) (l .1) in (
+        sym (same .1),
+        ap (λ t. take t bytes) sizes
+            ∙ join-codes (e .size) (n .size + (n .size + 1)) bytes _ _ code-p
             (join-codes (n .size) (n .size + 1) (drop (e .size) bytes) _ _ code-m
-              (join-codes (n .size) 1 (drop (n .size) (drop (e .size) bytes)) _ _ code-y code-l))
-        ∙ ap (encode-claim n e) (same .0) )
+            (join-codes (n .size) 1 (drop (n .size) (drop (e .size) bytes)) _ _ code-y code-l))
+            ∙ ap (encode-claim n e) (same .0),
+      )
 
   claim-each : (c : ClaimOf E V) → take (claim-size n e) bytes ≡ encode-claim n e c → read-claim n e bytes ≡ Ok (c, claim-size n e)
   claim-each c code =
@@ -133,10 +135,10 @@ module _ {E V : Type 0} (n : Codec E) (e : Codec V) (numbers : IsCodec n) (eleme
       let m = split-codes (n .size) (n .size + 1) (drop (e .size) bytes) _ _ (numbers .sized (c .product)) (p .1) in
       let y = split-codes (n .size) 1 (drop (n .size) (drop (e .size) bytes)) _ _ (numbers .sized (c .y)) (m .1) in
       read-whole n e bytes (product-at n e) (y-at n e) (log-len-at n e) (c .commitment) (c .product) (c .y) (c .log-len) refl refl refl
-        (sym (read-each e elements 0 bytes (c .commitment) (p .0)))
-        (sym (read-each n numbers (product-at n e) (drop (product-at n e) bytes) (c .product) (m .0)))
-        (sym (read-each n numbers (y-at n e) (drop (y-at n e) bytes) (c .y) (ap (take (n .size)) past-product ∙ y .0)))
-        (sym (byte-each (log-len-at n e) (drop (log-len-at n e) bytes) (c .log-len) (ap (take 1) past-y ∙ y .1)))
+      (sym (read-each e elements 0 bytes (c .commitment) (p .0)))
+      (sym (read-each n numbers (product-at n e) (drop (product-at n e) bytes) (c .product) (m .0)))
+      (sym (read-each n numbers (y-at n e) (drop (y-at n e) bytes) (c .y) (ap (take (n .size)) past-product ∙ y .0)))
+      (sym (byte-each (log-len-at n e) (drop (log-len-at n e) bytes) (c .log-len) (ap (take 1) past-y ∙ y .1)))
 
   pub accepts-claims : (r : Result (ClaimOf E V × ℕ) ByteFault) → r ≡ read-claim n e bytes → AcceptsClaims n e bytes r
   accepts-claims r is = record { only = λ c k ok. claim-only c k (sym is ∙ ok); each = λ c code. is ∙ claim-each c code }

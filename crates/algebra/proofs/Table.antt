@@ -41,5 +41,6 @@ each f (suc n) = f n && each f n
 pub below : (f : ℕ → Bool) (n : ℕ) → T (each f n) → (k : ℕ) → k < n → T (f k)
 below f zero t k h = absurd (not-suc-le-zero h)
 below f (suc n) t k h = elim (cases-eq k n) [
-    inl e ↦ subst (λ m. T (f m)) (sym e) (and-left (f n) (each f n) t)
-  | inr e ↦ below f n (and-right (f n) (each f n) t) k (omega arith) ]
+  | inl e ↦ subst (λ m. T (f m)) (sym e) (and-left (f n) (each f n) t)
+  | inr e ↦ below f n (and-right (f n) (each f n) t) k (omega arith)
+]

@@ -36,6 +36,7 @@ module _ (done code out buffer after : List ℕ) (at : ℕ) (r : Result ℕ Byte
       let total = length-append done code in
       let front : take at buffer ≡ done = ap (take at) held ∙ take-at done (drop (length done) out) at (sym is) in
       let tail : drop (length buffer - at) (drop at buffer) ≡ [] = drop-all (length buffer - at) (drop at buffer) (simp length-drop (omega arith)) in
-      let body : after ≡ code ++ drop (length (done ++ code)) out = wrote .1 ∙ ap (λ t. code ++ drop (length code) t) rest ∙ ap (λ t. code ++ t) (drop-drop (length code) (length done) out ∙ ap (λ t. drop t out) (sym total)) in
-      ( omega (arith, count, total)
-      , ap₂ (λ t u. t ++ (after ++ u)) front tail ∙ ap (λ t. done ++ t) (append-nil after ∙ body) ∙ sym (append-assoc done code _) )
+      let body : after ≡ code ++ drop (length (done ++ code)) out = wrote .1 ∙ ap (λ t. code ++ drop (length code) t) rest ∙ ap (λ t. code ++ t) (drop-drop (length code) (length done) out ∙ ap (λ t. drop t out) (sym total)) in (
+        omega (arith, count, total),
+        ap₂ (λ t u. t ++ (after ++ u)) front tail ∙ ap (λ t. done ++ t) (append-nil after ∙ body) ∙ sym (append-assoc done code _),
+      )

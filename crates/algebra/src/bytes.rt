@@ -23,8 +23,9 @@ pub fn put(code: &[u8], out: &mut [u8]) -> Result<usize, ByteFault>
 pub(crate) fn number_at(bytes: &[u8], at: usize, width: usize) -> Option<u64>
     requires { ⌜ width ≤ 7 ⌝ }
     ensures { λ r. ⌜ elim r [
-        Some n ↦ Digits width (drop at (now (bytes .entry))) n
-      | None ↦ length (drop at (now (bytes .entry))) < width ] ⌝ }
+      | Some n ↦ Digits width (drop at (now (bytes .entry))) n
+      | None ↦ length (drop at (now (bytes .entry))) < width
+    ] ⌝ }
 {
     let left = bytes.len().saturating_sub(at);
     if left < width {

@@ -31,12 +31,17 @@ fn log2(n: usize) -> Option<u8>
 }
 
 // The claim that is true of a and b, with b weighted by the powers of y.
-pub fn new_with_claim<F: Field, G: Space<Scalar = F>>(setup: &Setup<G>, a: &[F], b: &[F], y: F) -> Result<Claim<F, G>, Fault>
+pub fn new_with_claim<F: Field, G: Space<Scalar = F>>(
+    setup: &Setup<G>,
+    a: &[F],
+    b: &[F],
+    y: F,
+) -> Result<Claim<F, G>, Fault>
     ensures { λ r. ⌜ Answers (first-fault (claim-tests (pairs (now (now (setup .entry) .elements))) (length (now (a .entry))) (length (now (b .entry)))))
         (λ c. Claims (F·Field .field) (space-over F·Field G·Space)
-            (elements G·Space (g-part (now (now (setup .entry) .elements)))) (elements G·Space (h-part (now (now (setup .entry) .elements))))
-            (numbers F·Field (now (a .entry))) (numbers F·Field (now (b .entry))) (F·Field .means y)
-            (claim-of (F·Field .means) (G·Space .means) c)) r ⌝ }
+        (elements G·Space (g-part (now (now (setup .entry) .elements)))) (elements G·Space (h-part (now (now (setup .entry) .elements))))
+        (numbers F·Field (now (a .entry))) (numbers F·Field (now (b .entry))) (F·Field .means y)
+        (claim-of (F·Field .means) (G·Space .means) c)) r ⌝ }
 {
     if a.len() != b.len() {
         return Err(Fault::Lengths);

@@ -79,7 +79,12 @@ pub fn convert(heap: Global, loads: &[Load]) -> Result<Vectors, DayFault>
 }
 
 // The claim of the day's total, under the setup.
-pub fn claim_day(heap: Global, setup: &Setup<Square>, loads: &[Load], y: Mod251) -> Result<Claim<Mod251, Square>, DayFault>
+pub fn claim_day(
+    heap: Global,
+    setup: &Setup<Square>,
+    loads: &[Load],
+    y: Mod251,
+) -> Result<Claim<Mod251, Square>, DayFault>
     ensures { λ r. ⌜ Settles (now (now (setup .entry) .elements)) (now (loads .entry)) y r ⌝ }
 {
     let day = convert(heap, loads)?;

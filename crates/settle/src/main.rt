@@ -73,7 +73,10 @@ fn settle(rt: &LibcRuntime, loads: &[Load]) -> Result<(), Stop> {
     let log_len = claim.log_len;
     let text = hex(heap, &bytes)?;
     println!(rt, "total {sum}, which is {product} modulo 251")?;
-    println!(rt, "claim: commitment {commitment}, product {product}, y {y}, 2^{log_len} loads")?;
+    println!(
+        rt,
+        "claim: commitment {commitment}, product {product}, y {y}, 2^{log_len} loads"
+    )?;
     println!(rt, "bytes:{text}")?;
     println!(rt, "read back: the same claim")?;
     Ok(())

@@ -66,19 +66,28 @@ pub impl fmt::Display for Stop as StopDisplay {
         match self {
             Stop::Usage => write!(f, "give no argument, or the path of one file of loads"),
             Stop::Malformed { line, text } => write!(f, "line {line} is not `litres fat`: {text}"),
-            Stop::Day(DayFault::Beyond(load)) => write!(f, "load {load} has a number above 250, the highest at the bench"),
+            Stop::Day(DayFault::Beyond(load)) => write!(
+                f,
+                "load {load} has a number above 250, the highest at the bench"
+            ),
             Stop::Day(DayFault::Claim(fault)) => {
                 let number = fault.number();
                 let layer = layer_name(fault.layer());
                 let place = fault.place();
                 let why = sentence(*fault);
-                write!(f, "refused with {number} (layer {layer}, place {place}): {why}")
+                write!(
+                    f,
+                    "refused with {number} (layer {layer}, place {place}): {why}"
+                )
             }
             Stop::Setup(fault) => {
                 let number = fault.number();
                 let layer = layer_name(fault.layer());
                 let place = fault.place();
-                write!(f, "refused with {number} (layer {layer}, place {place}): the row is no setup")
+                write!(
+                    f,
+                    "refused with {number} (layer {layer}, place {place}): the row is no setup"
+                )
             }
             Stop::Differs => write!(f, "the claim read back is not the claim written"),
             Stop::Day(DayFault::Memory) | Stop::Memory => write!(f, "there is no memory left"),

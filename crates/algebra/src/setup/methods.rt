@@ -14,8 +14,9 @@ const LONGEST: usize = 2097153;
 impl<'a, G: Copy> Setup<'a, G> {
     pub fn new(elements: &'a [G]) -> Result<Setup<'a, G>, SetupFault>
         ensures { λ r. ⌜ elim r [
-            Ok s ↦ IsSetup (now (elements .entry)) × (now (s .elements) ≡ now (elements .entry))
-          | Err e ↦ (IsSetup (now (elements .entry)) → ⊥) × (e ≡ SetupFault.Row) ] ⌝ }
+          | Ok s ↦ IsSetup (now (elements .entry)) × (now (s .elements) ≡ now (elements .entry))
+          | Err e ↦ (IsSetup (now (elements .entry)) → ⊥) × (e ≡ SetupFault.Row)
+        ] ⌝ }
     {
         if elements.len() % 2 == 0 || elements.len() > LONGEST {
             return Err(SetupFault::Row);
@@ -45,7 +46,7 @@ impl<'a, G: Copy> Setup<'a, G> {
     pub fn g(&self) -> &'a [G]
         ensures { λ r. ⌜ now r ≡ g-part (now (now (self .entry) .elements)) ⌝ }
     {
-        let n = self.elements.len() / 2;
+        let n = self.count();
         &self.elements[0..n]
     }
 
@@ -53,7 +54,7 @@ impl<'a, G: Copy> Setup<'a, G> {
     pub fn h(&self) -> &'a [G]
         ensures { λ r. ⌜ now r ≡ h-part (now (now (self .entry) .elements)) ⌝ }
     {
-        let n = self.elements.len() / 2;
+        let n = self.count();
         &self.elements[n..n + n]
     }
 

@@ -34,10 +34,10 @@ impl Square {
         Some(Square { value })
     }
 
-    pub fn value(self) -> u16
+    pub fn value(self) -> u64
         ensures { λ r. ⌜ r ≡ self .value ⌝ }
     {
-        self.value
+        self.value as u64
     }
 }
 
@@ -96,7 +96,7 @@ pub impl Space for Square as SquareSpace {
 
     fn scale(self, s: Mod251) -> Square {
         Square {
-            value: power(self.value, s.value()),
+            value: power(self.value, s.value() as u8),
         }
     }
 

@@ -38,6 +38,6 @@ loop-i-again c =
     record {
       long = long;
       digits = take-more rest i 0 (omega (arith, long)) ∙ ap (λ t. take i rest ++ (t ∷ [])) (getD-drop (c .args .at) (c .args .bytes .now) i 0)
-        ∙ ap (λ t. t ++ (b ∷ [])) (c .loop-i .inv .digits) ∙ sym (big-endian-push i n b byte);
+          ∙ ap (λ t. t ++ (b ∷ [])) (c .loop-i .inv .digits) ∙ sym (big-endian-push i n b byte);
       fits = omega (arith, power, c .loop-i .inv .fits);
     }

@@ -15,8 +15,8 @@ loop-i-again g c =
     let a = left-at (c .args .a .now) i (c .index-a-i .result) (c .loop-i-test .taken) (c .index-a-i .is) in
     let b = left-at (c .args .b .now) i (c .index-b-i .result) (c .if-i-b .left) (c .index-b-i .is) in
     rw (c .add-sum .ensures, c .mul .ensures)
-      (lin-more (additive-group (g .F·Field·met .lawful)) (f .field .mul) (f .means (c .loop-i .sum)) _ _ _ _ (f .means (c .index-a-i .result)) (f .means (c .index-b-i .result))
-        (ap (map (f .means)) a) (ap (map (f .means)) b) ∙ c .loop-i .inv)
+    (lin-more (additive-group (g .F·Field·met .lawful)) (f .field .mul) (f .means (c .loop-i .sum)) _ _ _ _ (f .means (c .index-a-i .result)) (f .means (c .index-b-i .result))
+    (ap (map (f .means)) a) (ap (map (f .means)) b) ∙ c .loop-i .inv)
 
 pub returns-after-loop-i : need.returns-after-loop-i
 returns-after-loop-i g c =

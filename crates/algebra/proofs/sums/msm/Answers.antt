@@ -16,8 +16,8 @@ loop-i-again g c =
     let a = left-at (c .args .scalars .now) i (c .index-scalars-i .result) (c .loop-i-test .taken) (c .index-scalars-i .is) in
     let b = left-at (c .args .points .now) i (c .index-points-i .result) (c .if-i-points .left) (c .index-points-i .is) in
     rw (c .add-sum .ensures, c .scale .ensures)
-      (lin-more (g .G·Space·met .lawful) (space-over f s .scale) (s .means (c .loop-i .sum)) _ _ _ _ (f .means (c .index-scalars-i .result)) (s .means (c .index-points-i .result))
-        (ap (map (f .means)) a) (ap (map (s .means)) b) ∙ c .loop-i .inv)
+    (lin-more (g .G·Space·met .lawful) (space-over f s .scale) (s .means (c .loop-i .sum)) _ _ _ _ (f .means (c .index-scalars-i .result)) (s .means (c .index-points-i .result))
+    (ap (map (f .means)) a) (ap (map (s .means)) b) ∙ c .loop-i .inv)
 
 pub returns-after-loop-i : need.returns-after-loop-i
 returns-after-loop-i g c =

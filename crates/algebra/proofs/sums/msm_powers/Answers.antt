@@ -18,8 +18,8 @@ loop-i-holds g c =
     let y = f .means (c .args .y) in
     let n = length (c .args .scalars .now) in
     rw (c .zero-sum .ensures, c .one-power .ensures)
-      (lin-start (g .G·Space·met .lawful) (space-over f s .scale) _
-       ∙ ap (λ t. lin (space-over f s) (products K t (numbers f (c .args .scalars .now))) (elements s (c .args .points .now))) (mul-by-one (g .F·Field·met .lawful) (powers K y (n - 0)) ∙ ap (powers K y) (sub-zero n)))
+    (lin-start (g .G·Space·met .lawful) (space-over f s .scale) _
+    ∙ ap (λ t. lin (space-over f s) (products K t (numbers f (c .args .scalars .now))) (elements s (c .args .points .now))) (mul-by-one (g .F·Field·met .lawful) (powers K y (n - 0)) ∙ ap (powers K y) (sub-zero n)))
 
 pub loop-i-again : need.loop-i-again
 loop-i-again g c =
@@ -34,8 +34,8 @@ loop-i-again g c =
     let one-less : n - i ≡ suc (n - (i + 1)) = omega arith in
     let p = powers-more (g .F·Field·met .lawful) w (f .means (c .args .y)) (n - i) (n - (i + 1)) one-less in
     rw (c .add-sum .ensures, c .scale .ensures, c .mul .ensures, c .mul-power .ensures)
-      (lin-more (g .G·Space·met .lawful) (space-over f s .scale) (s .means (c .loop-i .sum)) _ _ _ _ (K .mul w (f .means (c .index-scalars-i .result))) (s .means (c .index-points-i .result))
-        (ap₂ (products K) p (ap (map (f .means)) a)) (ap (map (s .means)) b) ∙ c .loop-i .inv)
+    (lin-more (g .G·Space·met .lawful) (space-over f s .scale) (s .means (c .loop-i .sum)) _ _ _ _ (K .mul w (f .means (c .index-scalars-i .result))) (s .means (c .index-points-i .result))
+    (ap₂ (products K) p (ap (map (f .means)) a)) (ap (map (s .means)) b) ∙ c .loop-i .inv)
 
 pub returns-then-i-points : need.returns-then-i-points
 returns-then-i-points g c =

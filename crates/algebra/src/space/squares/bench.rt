@@ -5,7 +5,6 @@ ghost use Rattle.algebra.specs.declared.space.squares.Square.{Square as Value}
 ghost use Rattle.algebra.specs.Bench.{bench-values};
 use crate::space::squares::Square;
 
-
 pub fn bench_elements() -> [Square; 65]
     ensures { λ r. ⌜ map (λ (x : Value). x .value) r ≡ bench-values ⌝ }
 {

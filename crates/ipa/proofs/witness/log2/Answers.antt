@@ -14,4 +14,4 @@ returns-then-k-n c =
     let k = c .ilog2-k .result in
     let fits : 2 ^ k < 18446744073709551616 = omega (arith, c .ilog2-k .ensures .high-bound) in
     power-false 64 (c .args .n)
-      (λ j e. no-power k (c .args .n) j (c .ilog2-k .ensures .high-bound) (c .ilog2-k .ensures .low-bound) (λ same. c .if-k-n .taken (ap (λ t. t % 18446744073709551616) (one-mul (2 ^ k)) ∙ mod-eq-of-lt fits ∙ same)) e)
+    (λ j e. no-power k (c .args .n) j (c .ilog2-k .ensures .high-bound) (c .ilog2-k .ensures .low-bound) (λ same. c .if-k-n .taken (ap (λ t. t % 18446744073709551616) (one-mul (2 ^ k)) ∙ mod-eq-of-lt fits ∙ same)) e)

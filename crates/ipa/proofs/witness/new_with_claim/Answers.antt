@@ -16,7 +16,7 @@ returns-then-count-a g c =
     let row = c .args .setup .now .elements .now in
     let log = c .in-Some .ensures tt in
     rw (eq-eqb (length a) (length b) (c .if-a-b .left), power-true 64 (length a) (c .in-Some .log-len) (log .1) (log .0), lt-leb (length a) (count row) (omega (arith, c .count .ensures, c .if-count-a .taken)))
-      refl
+    refl
 
 pub returns : need.returns
 returns g c =
@@ -29,12 +29,12 @@ returns g c =
     let log = c .in-Some .ensures tt in
     let ps = λ (n : ℕ). products (f .field) (powers (f .field) (f .means (c .args .y)) n) (numbers f b) in
     rw (eq-eqb (length a) (length b) (c .if-a-b .left), power-true 64 (length a) (c .in-Some .log-len) (log .1) (log .0), le-leb (length a) (count row) (omega (arith, c .count .ensures, c .if-count-a .left)))
-      (record {
-        commitment = c .add .ensures
+    (record {
+      commitment = c .add .ensures
           ∙ ap₂ (s .group .add)
-              (c .msm-left .ensures ∙ ap (λ t. lin S (numbers f a) (elements s t)) (c .g .ensures))
-              (c .msm-powers-right .ensures ∙ ap₂ (λ n t. lin S (ps n) (elements s t)) (sym (length-map b (f .means))) (c .h .ensures));
-        product = c .dot .ensures;
-        same-y = refl;
-        length-a = log .0 ∙ sym (length-map a (f .means));
-      })
+          (c .msm-left .ensures ∙ ap (λ t. lin S (numbers f a) (elements s t)) (c .g .ensures))
+          (c .msm-powers-right .ensures ∙ ap₂ (λ n t. lin S (ps n) (elements s t)) (sym (length-map b (f .means))) (c .h .ensures));
+      product = c .dot .ensures;
+      same-y = refl;
+      length-a = log .0 ∙ sym (length-map a (f .means));
+    })

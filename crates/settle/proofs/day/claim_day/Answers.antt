@@ -44,7 +44,7 @@ returns c =
     let litres = ap (map number-of) (c .as-slice .ensures .value) ∙ day .1 in
     let fat = ap (map number-of) (c .as-slice-2 .ensures .value) ∙ day .2 in
     let claims : Claims field251 bench-space (map element-of (g-part row)) (map element-of (h-part row)) (litres-of ls) (fat-of ls) (number-of (c .args .y)) (claim-of number-of element-of (c .in-Continue-new-with-claim .field-0))
-        = rw litres at (rw fat at (got .1)) in
+    = rw litres at (rw fat at (got .1)) in
     record {
       in-range = day .0;
       supported = ap₂ (λ m n. first-fault (claim-tests (count row) m n)) (sym a) (sym b) ∙ got .0;

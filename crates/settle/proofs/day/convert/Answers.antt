@@ -22,16 +22,18 @@ loop-i-again c =
     let ls = c .args .loads .now in
     let h = c .loop-i-test .taken in
     let x = c .in-Some .ensures tt in
-    let y = c .in-Some-new .ensures tt in
-    ( beyond-more ls (l .i) none h (l .inv .0) (omega (arith, x, c .in-Some .x .below)) (omega (arith, y, c .in-Some-new .y .below))
-    , column-more (λ d. d .litres) ls (l .i) none _ _ (c .in-Some .x) h (c .in-Continue-push .ensures tt .items) x (l .inv .1)
-    , column-more (λ d. d .fat) ls (l .i) none _ _ (c .in-Some-new .y) h (c .in-Continue-push-2 .ensures tt .items) y (l .inv .2) )
+    let y = c .in-Some-new .ensures tt in (
+      beyond-more ls (l .i) none h (l .inv .0) (omega (arith, x, c .in-Some .x .below)) (omega (arith, y, c .in-Some-new .y .below)),
+      column-more (λ d. d .litres) ls (l .i) none _ _ (c .in-Some .x) h (c .in-Continue-push .ensures tt .items) x (l .inv .1),
+      column-more (λ d. d .fat) ls (l .i) none _ _ (c .in-Some-new .y) h (c .in-Continue-push-2 .ensures tt .items) y (l .inv .2),
+    )
 
 pub returns : need.returns
 returns c =
     let l = c .loop-i in
     let ls = c .args .loads .now in
-    let whole = take-all (l .i) ls (c .loop-i-test .left) in
-    ( sym (l .inv .0) ∙ at-drop-all (first-beyond _) ls (l .i) (c .loop-i-test .left)
-    , l .inv .1 ∙ ap litres-of whole
-    , l .inv .2 ∙ ap fat-of whole )
+    let whole = take-all (l .i) ls (c .loop-i-test .left) in (
+      sym (l .inv .0) ∙ at-drop-all (first-beyond _) ls (l .i) (c .loop-i-test .left),
+      l .inv .1 ∙ ap litres-of whole,
+      l .inv .2 ∙ ap fat-of whole,
+    )

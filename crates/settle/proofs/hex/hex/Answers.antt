@@ -27,9 +27,9 @@ loop-b-again c =
     let two = c .in-Continue-push-2 .ensures tt in
     let last = c .in-Continue-push-3 .ensures tt in
     three t (spaced (drop (l .b-index + 1) bytes))
-      (one .bytes) (one .ascii (omega arith))
-      (two .bytes) (two .ascii (c .digit .ensures .bound) ∙ ap (λ n. n ∷ []) (c .digit .ensures .value))
-      (last .bytes) (last .ascii (c .digit-in-loop-b .ensures .bound) ∙ ap (λ n. n ∷ []) (c .digit-in-loop-b .ensures .value))
+    (one .bytes) (one .ascii (omega arith))
+    (two .bytes) (two .ascii (c .digit .ensures .bound) ∙ ap (λ n. n ∷ []) (c .digit .ensures .value))
+    (last .bytes) (last .ascii (c .digit-in-loop-b .ensures .bound) ∙ ap (λ n. n ∷ []) (c .digit-in-loop-b .ensures .value))
     ∙ ap (λ s. t ++ s) (sym (at-drop-more spaced bytes (l .b-index) 0 (c .loop-b-test .taken))) ∙ l .inv
 
 pub returns : need.returns

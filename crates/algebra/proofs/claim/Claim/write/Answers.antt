@@ -38,11 +38,11 @@ returns g c =
     let room : s .codec .size + f .codec .size + f .codec .size + 1 ≤ length out = omega (arith, c .size .ensures, c .if-out-size .left) in
     let first = holds-first p out (c .write .last .out) (c .write .result) (c .in-Continue-at .at) (c .write .ensures) (c .in-Continue-at .was tt) (omega (arith, room, a)) in
     let second = holds-more p m out (c .write .last .out) (c .write-2 .last .out) (c .in-Continue-at .at) (c .write-2 .result) (c .in-Continue-at-2 .field-0)
-      (first .1) (first .0) (c .write-2 .ensures) (c .in-Continue-at-2 .was tt) (omega (arith, room, a, b)) in
+    (first .1) (first .0) (c .write-2 .ensures) (c .in-Continue-at-2 .was tt) (omega (arith, room, a, b)) in
     let third = holds-more (p ++ m) y out _ (c .write-3 .last .out) (c .in-Continue-at .at + c .in-Continue-at-2 .field-0) (c .write-3 .result) (c .in-Continue-at-3 .field-0)
-      (second .1) (second .0) (c .write-3 .ensures) (c .in-Continue-at-3 .was tt) (omega (arith, room, a, b, d, length-append p m)) in
+    (second .1) (second .0) (c .write-3 .ensures) (c .in-Continue-at-3 .was tt) (omega (arith, room, a, b, d, length-append p m)) in
     let fourth = holds-more (p ++ m ++ y) l out _ (c .put .last .out) (c .in-Continue-at .at + c .in-Continue-at-2 .field-0 + c .in-Continue-at-3 .field-0) (c .put .result) (c .in-Continue-at-4 .field-0)
-      (third .1) (third .0) (c .put .ensures) (c .in-Continue-at-4 .was tt) (omega (arith, room, a, b, d, length-append p m, length-append (p ++ m) y)) in
+    (third .1) (third .0) (c .put .ensures) (c .in-Continue-at-4 .was tt) (omega (arith, room, a, b, d, length-append p m, length-append (p ++ m) y)) in
     let whole : p ++ m ++ y ++ l ≡ p ++ (m ++ (y ++ l)) = append-assoc (p ++ m) y l ∙ append-assoc p m (y ++ l) in
     record {
       fits = λ _. (ap Ok (fourth .0 ∙ ap length whole), fourth .1 ∙ ap (λ t. t ++ drop (length t) out) whole);

@@ -21,16 +21,19 @@ loop-bits-again c =
     let l = c .loop-bits in
     let k = l .bits / 2 in
     elim (c .if-bits-eq1 .came) [
-      then-bits-eq1 w ↦
-        (let odd : k + k + 1 ≡ l .bits = omega (arith, w .if-bits-eq1 .taken) in
-         ( ap (λ t. (t * (l .square * l .square % 503) ^ k) % 503) (w .product-is) ∙ odd-step 503 (l .product) (l .square) k ∙ ap (λ t. (l .product * l .square ^ t) % 503) odd ∙ l .inv .0
-         , rw (w .product-is) (mod-lt _ (lit< tt))
-         , mod-lt _ (lit< tt) ))
-    | else-bits-eq1 w ↦
-        (let even : k + k ≡ l .bits = omega (arith, w .if-bits-eq1 .left) in
-         ( ap (λ t. (t * (l .square * l .square % 503) ^ k) % 503) (w .product-is) ∙ even-step 503 (l .product) (l .square) k ∙ ap (λ t. (l .product * l .square ^ t) % 503) even ∙ l .inv .0
-         , rw (w .product-is) (l .inv .1)
-         , mod-lt _ (lit< tt) )) ]
+      | then-bits-eq1 w ↦
+          (let odd : k + k + 1 ≡ l .bits = omega (arith, w .if-bits-eq1 .taken) in (
+            ap (λ t. (t * (l .square * l .square % 503) ^ k) % 503) (w .product-is) ∙ odd-step 503 (l .product) (l .square) k ∙ ap (λ t. (l .product * l .square ^ t) % 503) odd ∙ l .inv .0,
+            rw (w .product-is) (mod-lt _ (lit< tt)),
+            mod-lt _ (lit< tt),
+          ))
+      | else-bits-eq1 w ↦
+          (let even : k + k ≡ l .bits = omega (arith, w .if-bits-eq1 .left) in (
+            ap (λ t. (t * (l .square * l .square % 503) ^ k) % 503) (w .product-is) ∙ even-step 503 (l .product) (l .square) k ∙ ap (λ t. (l .product * l .square ^ t) % 503) even ∙ l .inv .0,
+            rw (w .product-is) (l .inv .1),
+            mod-lt _ (lit< tt),
+          ))
+    ]
 
 pub returns : need.returns
 returns c =

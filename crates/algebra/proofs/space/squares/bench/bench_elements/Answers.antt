@@ -22,11 +22,12 @@ ghost-row-in-loop-k c = (mod-lt _ (lit< tt), (unit (c .loop-k .k) (c .loop-k-tes
 
 pub loop-k-again : need.loop-k-again
 loop-k-again c =
-    let l = c .loop-k in
-    ( length-set (l .row) (l .k) _ ∙ l .inv .0
-    , ap (map (λ (x : Square). x .value)) (take-more-set (l .row) (l .k) _ (omega (arith, l .inv .0)))
-      ∙ map-push (λ (x : Square). x .value) _ _ ∙ ap (λ t. t ++ (bench-value (l .k) ∷ [])) (l .inv .1)
-      ∙ sym (map-counting-more bench-value 0 (l .k) (l .k) (omega arith)) )
+    let l = c .loop-k in (
+      length-set (l .row) (l .k) _ ∙ l .inv .0,
+      ap (map (λ (x : Square). x .value)) (take-more-set (l .row) (l .k) _ (omega (arith, l .inv .0)))
+          ∙ map-push (λ (x : Square). x .value) _ _ ∙ ap (λ t. t ++ (bench-value (l .k) ∷ [])) (l .inv .1)
+          ∙ sym (map-counting-more bench-value 0 (l .k) (l .k) (omega arith)),
+    )
 
 pub returns : need.returns
 returns c =
