@@ -7,8 +7,8 @@ pub mod Modular
 pub mod Mod251
 pub mod Powers
 pub mod Squares
-pub mod Over
 pub mod Sums
 pub mod Setups
 pub mod Bench
 pub mod Claims
+pub mod Over

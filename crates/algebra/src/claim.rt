@@ -1,8 +1,9 @@
 // A claim: litres times fat points, summed over the loads, gives one total under one commitment.
 ghost use mathlib.Core.Path.{_≡_};
 ghost use lib.Dec.{T};
-ghost use Rattle.algebra.specs.Bytes.{Written, meant};
-ghost use Rattle.algebra.specs.Claims.{claim-of, encode-claim, read-claim, claim-size, AcceptsClaims};
+ghost use Rattle.algebra.specs.Bytes.{Written};
+ghost use Rattle.algebra.specs.Claims.{read-claim, claim-size, AcceptsClaims};
+ghost use Rattle.algebra.specs.Over.{claim-meant, claim-code, read-meant};
 use crate::bytes;
 use crate::fault::ByteFault;
 use crate::field::Field;
@@ -30,7 +31,7 @@ impl<F: Field, G: Space<Scalar = F>> Claim<F, G> {
 
     // Writes the claim to the front of the output, and answers its length.
     pub fn write(self, out: &mut [u8]) -> Result<usize, ByteFault>
-        ensures { λ r. ⌜ Written (encode-claim (F·Field .codec) (G·Space .codec) (claim-of (F·Field .means) (G·Space .means) self)) (now (out .entry)) (now (out .exit)) r ⌝ }
+        ensures { λ r. ⌜ Written (claim-code F·Field G·Space self) (now (out .entry)) (now (out .exit)) r ⌝ }
     {
         if out.len() < Self::size() {
             return Err(ByteFault::Output);
@@ -44,8 +45,8 @@ impl<F: Field, G: Space<Scalar = F>> Claim<F, G> {
 
     // The claim that begins the bytes, and how many it takes; what follows is ignored.
     pub fn read(bytes: &[u8]) -> Result<(Claim<F, G>, usize), ByteFault>
-        ensures value { λ r. ⌜ meant (λ p. (claim-of (F·Field .means) (G·Space .means) (p .0), p .1)) r ≡ read-claim (F·Field .codec) (G·Space .codec) (now (bytes .entry)) ⌝ }
-        ensures accepts { λ r. ⌜ AcceptsClaims (F·Field .codec) (G·Space .codec) (now (bytes .entry)) (meant (λ p. (claim-of (F·Field .means) (G·Space .means) (p .0), p .1)) r) ⌝ }
+        ensures value { λ r. ⌜ read-meant F·Field G·Space r ≡ read-claim (F·Field .codec) (G·Space .codec) (now (bytes .entry)) ⌝ }
+        ensures accepts { λ r. ⌜ AcceptsClaims (F·Field .codec) (G·Space .codec) (now (bytes .entry)) (read-meant F·Field G·Space r) ⌝ }
     {
         let commitment = G::read(bytes, 0)?;
         let product_at = G::width();
@@ -65,8 +66,8 @@ impl<F: Field, G: Space<Scalar = F>> Claim<F, G> {
 
     // Whether both mean one claim.
     pub fn same(self, other: Claim<F, G>) -> bool
-        ensures yes { λ r. ⌜ (T r → claim-of (F·Field .means) (G·Space .means) self ≡ claim-of (F·Field .means) (G·Space .means) other) ⌝ }
-        ensures back { λ r. ⌜ (claim-of (F·Field .means) (G·Space .means) self ≡ claim-of (F·Field .means) (G·Space .means) other → T r) ⌝ }
+        ensures yes { λ r. ⌜ (T r → claim-meant F·Field G·Space self ≡ claim-meant F·Field G·Space other) ⌝ }
+        ensures back { λ r. ⌜ (claim-meant F·Field G·Space self ≡ claim-meant F·Field G·Space other → T r) ⌝ }
     {
         self.commitment.same(other.commitment)
             && self.product.same(other.product)

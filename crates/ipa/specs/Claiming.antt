@@ -5,9 +5,16 @@ use mathlib.Core.List.{List, [], _∷_}
 use Prim.Native.Nat.{ℕ, zero, suc, _^_}
 use lib.Dec.{eqb, leb}
 use lib.ListN.{length}
+use Rattle.std.specs.declared.result.Result.{Result}
+use Rattle.algebra.specs.declared.field.Field as field
+use Rattle.algebra.specs.declared.space.Space as space
+use Rattle.algebra.specs.declared.claim.Claim.{Claim}
 use Rattle.algebra.specs.Structures.{FieldOps, SpaceOps}
+use Rattle.algebra.specs.Over.{space-over, numbers, elements, claim-meant}
+use Rattle.algebra.specs.Setups.{count, g-part, h-part}
 use Rattle.algebra.specs.Sums.{lin, dot, products, powers}
 use Rattle.algebra.specs.Claims.{ClaimOf}
+use Rattle.ipa.specs.Faults.{first-fault, Answers}
 use Rattle.ipa.specs.declared.fault.Fault.{Fault}
 use Rattle.ipa.specs.declared.fault.Fault.the-variants.{Lengths, NotPowerOfTwo, SmallSetup}
 
@@ -39,3 +46,9 @@ module _ {E V : Type 0} (K : FieldOps E) (S : SpaceOps E V) where
     pub product : c .product ≡ dot K a b
     pub same-y : c .y ≡ y
     pub length-a : 2 ^ c .log-len ≡ length a
+
+-- What making a claim answers: the first fault, or the claim that is true of a and b.
+abbrev pub MakesClaim : {F G : Type 0} (f : field.Ghosts F) (s : space.Ghosts G F) (row : List G) (a b : List F) (y : F) → Result (Claim F G) Fault → Type 0
+MakesClaim f s row a b y =
+    Answers (first-fault (claim-tests (count row) (length a) (length b)))
+    (λ c. Claims (f .field) (space-over f s) (elements s (g-part row)) (elements s (h-part row)) (numbers f a) (numbers f b) (f .means y) (claim-meant f s c))

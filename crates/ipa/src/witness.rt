@@ -2,13 +2,8 @@
 ghost use mathlib.Core.Path.{_≡_};
 ghost use mathlib.Core.Bool.{false};
 ghost use Prim.Native.Nat.{_^_, _<_};
-ghost use lib.ListN.{length};
 ghost use Rattle.std.specs.declared.option.Option.the-variants.{Some, None};
-ghost use Rattle.algebra.specs.Over.{space-over, numbers, elements};
-ghost use Rattle.algebra.specs.Setups.{count as pairs, g-part, h-part};
-ghost use Rattle.algebra.specs.Claims.{claim-of};
-ghost use Rattle.ipa.specs.Faults.{first-fault, Answers};
-ghost use Rattle.ipa.specs.Claiming.{is-power-of-two, claim-tests, Claims};
+ghost use Rattle.ipa.specs.Claiming.{is-power-of-two, MakesClaim};
 use crate::fault::Fault;
 use algebra::claim::Claim;
 use algebra::field::Field;
@@ -37,11 +32,7 @@ pub fn new_with_claim<F: Field, G: Space<Scalar = F>>(
     b: &[F],
     y: F,
 ) -> Result<Claim<F, G>, Fault>
-    ensures { λ r. ⌜ Answers (first-fault (claim-tests (pairs (now (now (setup .entry) .elements))) (length (now (a .entry))) (length (now (b .entry)))))
-        (λ c. Claims (F·Field .field) (space-over F·Field G·Space)
-        (elements G·Space (g-part (now (now (setup .entry) .elements)))) (elements G·Space (h-part (now (now (setup .entry) .elements))))
-        (numbers F·Field (now (a .entry))) (numbers F·Field (now (b .entry))) (F·Field .means y)
-        (claim-of (F·Field .means) (G·Space .means) c)) r ⌝ }
+    ensures { λ r. ⌜ MakesClaim F·Field G·Space (now (now (setup .entry) .elements)) (now (a .entry)) (now (b .entry)) y r ⌝ }
 {
     if a.len() != b.len() {
         return Err(Fault::Lengths);

@@ -26,7 +26,7 @@ pub fn reads_back(bytes: &[u8], claim: Claim<Mod251, Square>) -> bool
     ensures only { λ r. ⌜ (T r → take 5 (now (bytes .entry)) ≡ encode-claim codec251 codec503 (claim-of number-of element-of claim)) ⌝ }
     ensures each { λ r. ⌜ (take 5 (now (bytes .entry)) ≡ encode-claim codec251 codec503 (claim-of number-of element-of claim) → T r) ⌝ }
 {
-    match Claim::read(bytes) {
+    match Claim::<Mod251, Square>::read(bytes) {
         Ok(read) => claim.same(read.0),
         Err(_) => false,
     }
