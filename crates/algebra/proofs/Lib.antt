@@ -1,4 +1,4 @@
-pub mod Table
+pub mod Tested
 pub mod BigEndian
 pub mod Residues
 pub mod SquareLaws

@@ -1,12 +1,11 @@
 -- The turns of loops that sum over slices. Assumes nothing.
 use mathlib.Core.Path.{_≡_, refl, sym, ap, ap₂, _∙_}
 use mathlib.Core.List.{List, [], _∷_, map}
-use Prim.Native.Nat.{ℕ, zero, suc, _+_, _-_, _<_, _≤_}
-use native.Mathlib.Omega.{arith}
+use Prim.Native.Nat.{ℕ, zero, suc, _+_, _-_, _<_}
 use lib.ListN.{length, drop, getD}
-use Rattle.std.proofs.shelf.Lists.{drop-more, drop-all}
+use Rattle.std.proofs.shelf.Lists.{drop-more}
 use Rattle.algebra.specs.Structures.{FieldOps, IsField, GroupOps, IsGroup, with-multiples, additive}
-use Rattle.algebra.specs.Sums.{lin, products, powers}
+use Rattle.algebra.specs.Sums.{lin, powers}
 
 -- what is left of a slice, at a place where x was read
 pub left-at : {X : Type 0} (xs : List X) (i : ℕ) (x : X) → i < length xs → x ≡ getD xs i x → drop i xs ≡ x ∷ drop (i + 1) xs

@@ -1,5 +1,5 @@
 -- Powers modulo q, and the numbers of which one power is 1. Assumes nothing.
-use mathlib.Core.Path.{_≡_, refl, sym, ap, _∙_}
+use mathlib.Core.Path.{_≡_, sym, ap, _∙_}
 use Prim.Native.Nat.{ℕ, zero, suc, _+_, _*_, _/_, _%_, _^_}
 use native.Mathlib.Nat.{pow-suc, pow-zero, mul-assoc, mul-comm, mul-one, mod-add-div, mul-suc, mul-zero, add-mul, add-mul-mod-self-left}
 use lib.Pow.{pow-add}

@@ -1,9 +1,9 @@
 -- The squares modulo 503: a group of 251 elements, written as sums, and so a space over the integers modulo 251.
 -- Assumes nothing.
-use mathlib.Core.Path.{_≡_, refl, sym, ap, _∙_}
+use mathlib.Core.Path.{_≡_, refl}
 use mathlib.Core.Bool.{Bool, _&&_}
 use mathlib.Core.Option.{Option}
-use Prim.Native.Nat.{ℕ, zero, suc, _*_, _%_, _^_, _<_}
+use Prim.Native.Nat.{ℕ, zero, _*_, _%_, _^_, _<_}
 use native.Mathlib.Nat.{mod-lt}
 use lib.Dec.{ltb, eqb, lit<}
 use Rattle.std.proofs.shelf.Tests.{ltb-true, eqb-true, and-parts}

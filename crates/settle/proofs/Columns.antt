@@ -1,10 +1,10 @@
 -- The loads one by one: their numbers, and the first beyond the field. Assumes nothing.
 use mathlib.Core.Path.{_≡_, refl, sym, ap, ap₂, _∙_}
-use mathlib.Core.Bool.{true, false, cond}
+use mathlib.Core.Bool.{cond}
 use mathlib.Core.List.{List, [], _∷_, _++_, map}
-use mathlib.Core.Option.{some, none}
+use mathlib.Core.Option.{some}
 use Prim.Native.Nat.{ℕ, _+_, _*_, _%_, _<_, _≤_}
-use native.Mathlib.Nat.{mod-eq-of-lt, add-mod, mod-mod}
+use native.Mathlib.Nat.{mod-eq-of-lt, add-mod}
 use native.Mathlib.Omega.{arith}
 use lib.Dec.{ltb}
 use lib.ListN.{length, take, drop, getD}
@@ -12,7 +12,7 @@ use Rattle.std.proofs.shelf.Lists.{at-drop-more, map-more, map-push}
 use Rattle.std.proofs.shelf.Tests.{lt-ltb, le-ltb, and-from, and-left, and-right}
 use Rattle.loads.specs.declared.Load.{Load}
 use Rattle.algebra.specs.declared.field.mod251.Mod251.{Mod251 as Number}
-use Rattle.algebra.specs.Mod251.{Mod251, field251}
+use Rattle.algebra.specs.Mod251.{field251}
 use Rattle.algebra.specs.Powers.{both-mod}
 use Rattle.algebra.specs.Sums.{dot}
 use Rattle.algebra.proofs.Residues.{by-value}

@@ -6,7 +6,6 @@ use mathlib.Core.Option.{Option, none, some}
 use Prim.Native.Nat.{ℕ, _+_, _*_, _%_}
 use lib.Dec.{ltb, lit<}
 use lib.ListN.{length}
-use Rattle.std.specs.declared.alloc.Global.{Global}
 use Rattle.std.specs.declared.result.Result.{Result}
 use Rattle.std.specs.declared.result.Result.the-variants.{Ok, Err}
 use Rattle.std.specs.Of.Vec.{vec-items}
@@ -19,7 +18,7 @@ use Rattle.algebra.specs.Modular.{residue, reduced}
 use Rattle.algebra.specs.Mod251.{Mod251, field251}
 use Rattle.algebra.specs.Squares.{Square, square, squares, power}
 use Rattle.algebra.specs.Setups.{count, g-part, h-part}
-use Rattle.algebra.specs.Claims.{ClaimOf, claim-of}
+use Rattle.algebra.specs.Claims.{claim-of}
 use Rattle.ipa.specs.Faults.{first-fault}
 use Rattle.ipa.specs.Claiming.{claim-tests, Claims}
 use Rattle.settle.specs.declared.day.Vectors.{Vectors}

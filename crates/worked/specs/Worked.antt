@@ -1,7 +1,7 @@
 -- Worked cases of the definitions. Assumes nothing.
 use mathlib.Core.Path.{_≡_, refl}
-use mathlib.Core.List.{List, [], _∷_}
-use Prim.Native.Nat.{ℕ, _<_, _%_, _^_}
+use mathlib.Core.List.{[], _∷_}
+use Prim.Native.Nat.{_<_}
 use lib.Dec.{lit<}
 use Rattle.algebra.specs.Modular.{residue}
 use Rattle.algebra.specs.Mod251.{Mod251, field251, codec251}

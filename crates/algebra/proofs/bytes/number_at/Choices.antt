@@ -1,4 +1,3 @@
-use Prim.Native.Nat.{ℕ}
 use lib.ListN.{drop}
 use Rattle.algebra.specs.Numbered.{Digits}
 use Rattle.algebra.proofs.bytes.number_at.Given as given

@@ -1,6 +1,5 @@
 use mathlib.Core.Path.{sym, ap, _∙_}
 use mathlib.Core.List.{map}
-use native.Mathlib.Omega.{arith}
 use Rattle.std.proofs.shelf.Lists.{drop-all}
 use Rattle.algebra.proofs.Summing.{left-at, additive-group, lin-start, lin-more, lin-end-left, lin-end-right}
 use Rattle.algebra.proofs.sums.dot.Needs as need

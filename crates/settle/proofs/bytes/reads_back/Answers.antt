@@ -3,9 +3,9 @@ use Prim.Native.Nat.{ℕ}
 use native.Mathlib.Omega.{arith}
 use Rattle.std.specs.declared.result.Result.{Result}
 use Rattle.std.specs.declared.result.Result.the-variants.{Ok, Err}
-use Rattle.algebra.specs.Claims.{ClaimOf, claim-of, encode-claim}
-use Rattle.algebra.specs.Mod251.{Mod251, codec251}
-use Rattle.algebra.specs.Squares.{Square, codec503}
+use Rattle.algebra.specs.Claims.{claim-of, encode-claim}
+use Rattle.algebra.specs.Mod251.{codec251}
+use Rattle.algebra.specs.Squares.{codec503}
 use Rattle.settle.specs.Day.{number-of, element-of}
 use Rattle.settle.proofs.bytes.reads_back.Needs as need
 

@@ -1,7 +1,5 @@
-use mathlib.Core.Path.{_≡_, sym, ap, ap₂, _∙_, subst}
+use mathlib.Core.Path.{_≡_, sym, ap, ap₂, _∙_}
 use mathlib.Core.List.{List, map}
-use mathlib.Core.Option.{some, none}
-use Prim.Native.Nat.{ℕ, _%_}
 use lib.ListN.{length, length-map}
 use Rattle.std.proofs.shelf.Results.{err-from-errBy}
 use Rattle.std.specs.Of.Vec.{vec-items}
@@ -14,7 +12,7 @@ use Rattle.algebra.specs.Mod251.{field251}
 use Rattle.ipa.specs.Faults.{first-fault}
 use Rattle.ipa.specs.Claiming.{claim-tests, Claims}
 use Rattle.ipa.proofs.Answering.{answered, declined}
-use Rattle.settle.specs.Day.{number-of, element-of, bench-space, litres-of, fat-of, Settles, DayClaim}
+use Rattle.settle.specs.Day.{number-of, element-of, bench-space, litres-of, fat-of}
 use Rattle.settle.proofs.Columns.{dot-total}
 use Rattle.settle.proofs.day.claim_day.Needs as need
 

@@ -1,6 +1,6 @@
-use mathlib.Core.Path.{_≡_, sym, ap, _∙_}
+use mathlib.Core.Path.{sym, ap, _∙_}
 use native.Mathlib.Omega.{arith}
-use lib.ListN.{length, take}
+use lib.ListN.{take}
 use Rattle.std.proofs.shelf.Lists.{at-drop-all, take-all}
 use Rattle.loads.specs.declared.Load.{Load}
 use Rattle.settle.specs.Day.{first-beyond, litres-of, fat-of}

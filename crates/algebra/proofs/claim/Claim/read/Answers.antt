@@ -1,6 +1,5 @@
-use mathlib.Core.Path.{_≡_, sym, ap, ap₂, _∙_}
+use mathlib.Core.Path.{_≡_, sym, ap, ap₂}
 use Prim.Native.Nat.{_+_}
-use native.Mathlib.Omega.{arith}
 use Rattle.std.proofs.shelf.Results.{err-from-errBy}
 use Rattle.algebra.specs.Claims.{claim-of, read-claim, product-at, y-at, log-len-at}
 use Rattle.algebra.proofs.Reading.{handed-on, refused-commitment, refused-product, refused-y, refused-log-len, read-whole, accepts-claims}

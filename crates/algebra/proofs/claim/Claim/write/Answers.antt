@@ -1,12 +1,12 @@
-use mathlib.Core.Path.{_≡_, refl, sym, ap, ap₂, _∙_}
-use mathlib.Core.List.{List, [], _∷_, _++_, append-assoc}
-use Prim.Native.Nat.{ℕ, _+_, _≤_}
+use mathlib.Core.Path.{_≡_, refl, ap, _∙_}
+use mathlib.Core.List.{[], _∷_, _++_, append-assoc}
+use Prim.Native.Nat.{_+_, _≤_}
 use native.Mathlib.Omega.{arith}
 use lib.ListN.{length, drop, length-append}
 use Rattle.std.specs.declared.result.Result.the-variants.{Ok}
 use Rattle.algebra.specs.Codec.{Codec, IsCodec}
 use Rattle.algebra.specs.Claims.{ClaimOf, claim-of, encode-claim, claim-size}
-use Rattle.algebra.proofs.Writing.{Holds, holds-first, holds-more}
+use Rattle.algebra.proofs.Writing.{holds-first, holds-more}
 use Rattle.algebra.proofs.claim.Claim.write.Needs as need
 
 -- a claim's code has the size of a claim

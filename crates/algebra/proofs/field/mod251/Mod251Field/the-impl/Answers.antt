@@ -1,10 +1,10 @@
-use mathlib.Core.Path.{_≡_, refl, subst}
-use Prim.Native.Nat.{ℕ, suc, _-_, _*_, _%_, _^_, _<_}
+use mathlib.Core.Path.{_≡_, refl}
+use Prim.Native.Nat.{suc, _-_, _*_, _%_, _^_, _<_}
 use native.Mathlib.Omega.{arith}
 use lib.Dec.{eqb, eqb→eq, lit<, lit≤}
 use Rattle.algebra.specs.Modular.{Residue}
 use Rattle.algebra.specs.Mod251.{inverse251}
-use Rattle.algebra.proofs.Table.{below}
+use Rattle.algebra.proofs.Tested.{below}
 use Rattle.algebra.proofs.BigEndian.{numbers-encode}
 use Rattle.algebra.proofs.Residues.{modular-field, residue-numbers}
 use Rattle.algebra.proofs.field.mod251.Mod251Field.the-impl.Needs as need

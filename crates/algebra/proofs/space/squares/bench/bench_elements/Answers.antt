@@ -1,6 +1,6 @@
 use mathlib.Core.Path.{_≡_, sym, ap, _∙_}
 use mathlib.Core.List.{[], _∷_, _++_, map}
-use Prim.Native.Nat.{ℕ, _+_, _*_, _%_, _^_, _<_}
+use Prim.Native.Nat.{ℕ, _+_, _%_, _^_, _<_}
 use native.Mathlib.Nat.{mod-lt}
 use native.Mathlib.Omega.{arith}
 use lib.Dec.{eqb, eqb→eq, lit<}
@@ -10,7 +10,7 @@ use Rattle.std.proofs.shelf.Counted.{map-counting-more}
 use Rattle.std.specs.Iters.{counting}
 use Rattle.algebra.specs.declared.space.squares.Square.{Square}
 use Rattle.algebra.specs.Bench.{bench-value}
-use Rattle.algebra.proofs.Table.{below}
+use Rattle.algebra.proofs.Tested.{below}
 use Rattle.algebra.proofs.space.squares.bench.bench_elements.Needs as need
 
 -- All 65 are squares: tested at each.
