@@ -1,7 +1,6 @@
 pub mod Tested
 pub mod BigEndian
 pub mod Residues
-pub mod Powers
 pub mod Spaces
 pub mod Summing
 pub mod Folding

@@ -5,7 +5,7 @@ use native.Mathlib.Bridge.{le_prop}
 use native.Mathlib.Nat.{mod_self, mod-add-mod, add-mod-mod, add-mod}
 use Rattle.std.proofs.lemmas.Bool.{lt-ltb, le-ltb}
 use Rattle.algebra.specs.Structures.{IsField}
-use Rattle.algebra.proofs.Powers.{mod-mul-mod, mul-mod-mod}
+use Rattle.algebra.specs.Powers.{mod-mul-mod, mul-mod-mod}
 use Rattle.algebra.specs.Modular.{Residue, residue, modular, below_p}
 use Rattle.algebra.proofs.BigEndian.{Numbers, if_passes, if_fails, passed_from}
 

@@ -8,6 +8,7 @@ pub mod Runs
 pub mod SetupCode
 pub mod Proofs
 pub mod Modular
+pub mod Powers
 pub mod Sums
 pub mod Folds
 pub mod Setups

@@ -1,4 +1,6 @@
 // Fields, spaces over them, and the records that are made of their elements.
+#![tactic(auto)]
+
 pub mod bytes;
 pub mod claim;
 pub mod fault;

@@ -6,7 +6,7 @@ use Rattle.std.proofs.Math.Bridge.{le_prop}
 use Rattle.std.proofs.Math.Nat.{ℕ_set, pow-zero}
 use Rattle.std.proofs.lemmas.Bool.{lt-ltb, eq-eqb, and_from}
 use Rattle.algebra.specs.Structures.{IsGroup, SpaceOps, with_multiples, OverSum, OverAdd, OverMul, ByOne}
-use Rattle.algebra.proofs.Powers.{mod-mul-mod, mul-mod-mod, both_mod, pow-mod, mul-pow, pow-mul, pow_order}
+use Rattle.algebra.specs.Powers.{mod-mul-mod, mul-mod-mod, both_mod, pow-mod, mul-pow, pow-mul, pow_order}
 use Rattle.bench.specs.Mod251.{Mod251, field251}
 use Rattle.bench.specs.Squares.{Square, square, squares, power, is_square, square_at}
 use Rattle.algebra.proofs.BigEndian.{Numbers, if_passes, if_fails, passed_from}

@@ -7,7 +7,7 @@ use Rattle.std.proofs.lemmas.Bool.{ltb-true, eqb-true, and_parts}
 use Rattle.algebra.specs.Structures.{GroupOps}
 use Rattle.algebra.specs.Codec.{Codec}
 use Rattle.algebra.specs.Numbered.{by_number, if_passed}
-use Rattle.algebra.proofs.Powers.{product_unit, power_unit}
+use Rattle.algebra.specs.Powers.{product_unit, power_unit}
 
 -- A number below 503 whose power of 251 is 1 modulo 503. Zero has none, so it is 1 to 502.
 pub record Square : Type 0 where

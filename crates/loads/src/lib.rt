@@ -1,4 +1,6 @@
 // Reads a dairy's file of loads: text with one load to a line, its litres and then its fat.
+#![tactic(auto)]
+
 ghost use Rattle.std.specs.Prelude.{◌≡◌};
 ghost use Rattle.loads.specs.declared.LoadsFault.TheVariants.{Memory};
 ghost use Rattle.loads.specs.Loads.{Reads};

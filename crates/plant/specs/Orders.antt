@@ -4,7 +4,7 @@ use Rattle.std.proofs.Common.{sym, ap, ap₂, ◌∙◌, inl, inr, add_comm, add
 use Rattle.std.proofs.Math.Nat.{add-mul-mod_self_left, mod-add-div, mul-mod_left}
 use Rattle.std.proofs.lemmas.Bool.{cases_eq, cases_lt}
 use Rattle.algebra.proofs.Tested.{below}
-use Rattle.algebra.proofs.Powers.{mul-mod-mod, both_mod, pow-mod, mul-pow, pow-mul}
+use Rattle.algebra.specs.Powers.{mul-mod-mod, both_mod, pow-mod, mul-pow, pow-mul}
 
 -- Up to 256, x^65536 is 1: tested at each.
 small : (x : ℕ) → 0 < x → x ≤ 256 → x ^ 65536 % 65537 ≡ 1

@@ -7,7 +7,7 @@ use Rattle.std.proofs.lemmas.Bool.{lt-ltb, le-ltb, and_from, and_left, and_right
 use Rattle.loads.specs.declared.Load.{Load}
 use Rattle.bench.specs.declared.mod251.Mod251.{Mod251 as Number}
 use Rattle.bench.specs.Mod251.{field251}
-use Rattle.algebra.proofs.Powers.{both_mod}
+use Rattle.algebra.specs.Powers.{both_mod}
 use Rattle.algebra.specs.Sums.{dot}
 use Rattle.algebra.proofs.Residues.{by_value}
 use Rattle.settle.specs.Day.{total_of, number, litres_of, fat_of, in_range, first_beyond, number_of}

@@ -1,4 +1,6 @@
 // Makes a day's claim: reads the loads, claims their total at the bench, and shows the claim and its bytes.
+#![tactic(auto)]
+
 use crate::bytes::{claim_bytes, reads_back};
 use crate::day::{claim_day, total};
 use crate::hex::hex;

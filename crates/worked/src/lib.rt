@@ -1,4 +1,6 @@
 // The worked cases: proved of the definitions in one statement, and run as tests of the code.
+#![tactic(auto)]
+
 ghost use Rattle.std.specs.Prelude.{◌≡◌};
 ghost use Rattle.worked.specs.Worked.{WorkedCases};
 

@@ -12,13 +12,13 @@ small n i h k = let most : 256 ^ i ≤ 281474976710656 = pow-le-pow_right (lit< 
 pub returns-then-left-width : goal.returns-then-left-width
 returns-then-left-width c = λ _. simp length-drop (omega arith)
 
-pub overflow-mul-n : goal.overflow-mul-n
-overflow-mul-n c = let s = small c.loop-i.n c.loop-i.i (omega arith) c.loop-i.invariant.fits in omega arith
+pub overflow_mul-n : goal.overflow_mul-n
+overflow_mul-n c = let s = small c.loop-i.n c.loop-i.i (omega arith) c.loop-i.invariant.fits in omega arith
 
-pub overflow-add-n-in-loop-i : goal.overflow-add-n-in-loop-i
-overflow-add-n-in-loop-i c =
+pub overflow_add-n-in-loop-i : goal.overflow_add-n-in-loop-i
+overflow_add-n-in-loop-i c =
     let s = small c.loop-i.n c.loop-i.i (omega arith) c.loop-i.invariant.fits in
-    omega (arith, c.type-inv.bytes (c.args.at + c.loop-i.i))
+    omega (arith, c.type_inv.bytes (c.args.at + c.loop-i.i))
 
 pub loop-i-preserved : goal.loop-i-preserved
 loop-i-preserved c =
@@ -26,7 +26,7 @@ loop-i-preserved c =
     let n = c.loop-i.n in
     let rest = drop c.args.at c.args.bytes.now in
     let b = get_or c.args.bytes.now (c.args.at + i) 0 in
-    let byte : b < 256 = omega (arith, c.type-inv.bytes (c.args.at + i)) in
+    let byte : b < 256 = omega (arith, c.type_inv.bytes (c.args.at + i)) in
     let power : 256 ^ (i + 1) ≡ 256 ^ i * 256 = rw (add-one i) (pow-suc 256 i) in
     let long : i + 1 ≤ length rest = simp length-drop (omega arith) in
     record {

@@ -16,12 +16,12 @@ loop-i-preserved g c =
       | then-i-pairs w ↦
           folding_pair (over_itself f.field) (f.means c.args.u) (f.means c.args.v) f.means c.args.mid c.args.values.now l.i l.values l.invariant a c.index-values-i.is
           (omega (arith, c.loop-i-test.true, c.min-i-end.ensures)) (omega (arith, c.loop-i-test.true, c.min-i-end.ensures, l.auto.values)) w.index-values-mid.result c.if-i-pairs.values
-          (omega (arith, w.if-i-pairs.true, c.saturating-sub-pairs.ensures, l.auto.values)) w.index-values-mid.is
+          (omega (arith, w.if-i-pairs.true, c.saturating_sub-pairs.ensures, l.auto.values)) w.index-values-mid.is
           (ap f.means w.values-is ∙ w.add.ensures ∙ ap₂ f.field.add c.mul-low.ensures w.mul.ensures)
       | else-i-pairs w ↦
           folding_alone (over_itself f.field) (f.means c.args.u) (f.means c.args.v) f.means c.args.mid c.args.values.now l.i l.values l.invariant a c.index-values-i.is
           (omega (arith, c.loop-i-test.true, c.min-i-end.ensures)) (omega (arith, c.loop-i-test.true, c.min-i-end.ensures, l.auto.values)) c.if-i-pairs.values
-          (omega (arith, w.if-i-pairs.false, c.saturating-sub-pairs.ensures, l.auto.values)) (ap f.means w.values-is ∙ c.mul-low.ensures)
+          (omega (arith, w.if-i-pairs.false, c.saturating_sub-pairs.ensures, l.auto.values)) (ap f.means w.values-is ∙ c.mul-low.ensures)
     ]
 
 pub returns : goal.returns

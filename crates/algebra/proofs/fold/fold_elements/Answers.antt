@@ -17,12 +17,12 @@ loop-i-preserved g c =
       | then-i-pairs w ↦
           folding_pair (space_over f s) (f.means c.args.u) (f.means c.args.v) s.means c.args.mid c.args.values.now l.i l.values l.invariant a c.index-values-i.is
           (omega (arith, c.loop-i-test.true, c.min-i-end.ensures)) (omega (arith, c.loop-i-test.true, c.min-i-end.ensures, l.auto.values)) w.index-values-mid.result c.if-i-pairs.values
-          (omega (arith, w.if-i-pairs.true, c.saturating-sub-pairs.ensures, l.auto.values)) w.index-values-mid.is
+          (omega (arith, w.if-i-pairs.true, c.saturating_sub-pairs.ensures, l.auto.values)) w.index-values-mid.is
           (ap s.means w.values-is ∙ w.add.ensures ∙ ap₂ s.group.add c.scale-low.ensures w.scale.ensures)
       | else-i-pairs w ↦
           folding_alone (space_over f s) (f.means c.args.u) (f.means c.args.v) s.means c.args.mid c.args.values.now l.i l.values l.invariant a c.index-values-i.is
           (omega (arith, c.loop-i-test.true, c.min-i-end.ensures)) (omega (arith, c.loop-i-test.true, c.min-i-end.ensures, l.auto.values)) c.if-i-pairs.values
-          (omega (arith, w.if-i-pairs.false, c.saturating-sub-pairs.ensures, l.auto.values)) (ap s.means w.values-is ∙ c.scale-low.ensures)
+          (omega (arith, w.if-i-pairs.false, c.saturating_sub-pairs.ensures, l.auto.values)) (ap s.means w.values-is ∙ c.scale-low.ensures)
     ]
 
 pub returns : goal.returns

@@ -4,5 +4,5 @@ use Rattle.algebra.proofs.sums.laws.Goals as goal
 
 pub returns : goal.returns
 returns g c =
-    let space = gathered g.F.Field.field (space_over g.F.Field g.G.Space).scale g.met.G.Space.lawful c.scale-over-sum.ensures c.scale-over-add.ensures c.scale-over-mul.ensures c.scale-by-one.ensures in
+    let space = gathered g.F.Field.field (space_over g.F.Field g.G.Space).scale g.met.G.Space.lawful c.scale_over_sum.ensures c.scale_over_add.ensures c.scale_over_mul.ensures c.scale_by_one.ensures in
     record { space = space; sums = sums_of_mixes g.met.F.Field.lawful space }

@@ -7,8 +7,8 @@ use Rattle.bench.proofs.squares.power.Goals.{then-bits-eq1, else-bits-eq1}
 pub loop-bits-init : goal.loop-bits-init
 loop-bits-init c = (ap (λ t. t % 503) (one-mul _), lit< tt, c.requires)
 
-pub overflow-mul-product : goal.overflow-mul-product
-overflow-mul-product c =
+pub overflow_mul-product : goal.overflow_mul-product
+overflow_mul-product c =
     let low : c.loop-bits.product ≤ 502 = omega (arith, c.loop-bits.invariant.1) in
     let high : c.loop-bits.square ≤ 502 = omega (arith, c.loop-bits.invariant.2) in
     omega (arith, mul-le-mul low high)

@@ -31,7 +31,7 @@ returns g c =
       commitment = c.add.ensures
           ∙ ap₂ s.group.add
           (c.msm-left.ensures ∙ ap (λ t. lin S (numbers f a) (elements s t)) c.g.ensures)
-          (c.msm-powers-right.ensures ∙ ap₂ (λ n t. lin S (ps n) (elements s t)) (sym (length-map b f.means)) c.h.ensures);
+          (c.msm_powers-right.ensures ∙ ap₂ (λ n t. lin S (ps n) (elements s t)) (sym (length-map b f.means)) c.h.ensures);
       product = c.dot.ensures;
       same_y = refl;
       length_a = log.0 ∙ sym (length-map a f.means);

@@ -5,39 +5,39 @@ use Rattle.loads.specs.Numbers.{number_of}
 use Rattle.loads.proofs.Values.{number_after, from_none, at_digit, at_other, at_much, at_end}
 use Rattle.loads.proofs.line.number.Goals as goal
 
-pub returns-then-is-empty : goal.returns-then-is-empty
+pub returns-then-is_empty : goal.returns-then-is_empty
 unfolding number_of
-returns-then-is-empty c = rw (nil_from_length c.args.word.now (true-eqb _ 0 c.if-is-empty.ensures)) refl
+returns-then-is_empty c = rw (nil_from_length c.args.word.now (true-eqb _ 0 c.if-is_empty.ensures)) refl
 
 pub loop-byte-init : goal.loop-byte-init
-loop-byte-init c = (omega arith, from_none c.args.word.now (omega (arith, false-eqb _ 0 c.if-is-empty.ensures)))
+loop-byte-init c = (omega arith, from_none c.args.word.now (omega (arith, false-eqb _ 0 c.if-is_empty.ensures)))
 
-pub returns-then-not-is-ascii-digit : goal.returns-then-not-is-ascii-digit
-returns-then-not-is-ascii-digit c =
+pub returns-then-not-is_ascii_digit : goal.returns-then-not-is_ascii_digit
+returns-then-not-is_ascii_digit c =
     let l = c.loop-byte in
-    sym (at_other c.args.word.now l.byte-index l.value c.loop-byte-test.true (sym c.if-not-is-ascii-digit.ensures.value)) ∙ l.invariant.1
+    sym (at_other c.args.word.now l.byte-index l.value c.loop-byte-test.true (sym c.if-not-is_ascii_digit.ensures.value)) ∙ l.invariant.1
 
-pub returns-in-err-checked-mul : goal.returns-in-err-checked-mul
-returns-in-err-checked-mul c =
+pub returns-in_err-checked_mul : goal.returns-in_err-checked_mul
+returns-in_err-checked_mul c =
     let l = c.loop-byte in
-    c.from-residual.ensures
-    ∙ sym (at_much c.args.word.now l.byte-index l.value c.loop-byte-test.true (sym c.if-not-is-ascii-digit.ensures.value) (omega (arith, c.in-err-checked-mul.ensures)))
+    c.from_residual.ensures
+    ∙ sym (at_much c.args.word.now l.byte-index l.value c.loop-byte-test.true (sym c.if-not-is_ascii_digit.ensures.value) (omega (arith, c.in_err-checked_mul.ensures)))
     ∙ l.invariant.1
 
-pub returns-in-err-value : goal.returns-in-err-value
-returns-in-err-value c =
+pub returns-in_err-value : goal.returns-in_err-value
+returns-in_err-value c =
     let l = c.loop-byte in
-    c.from-residual-in-err-value.ensures
-    ∙ sym (at_much c.args.word.now l.byte-index l.value c.loop-byte-test.true (sym c.if-not-is-ascii-digit.ensures.value) (omega (arith, c.in-ok-checked-mul.ensures, c.from.ensures, c.in-err-value.ensures)))
+    c.from_residual-in_err-value.ensures
+    ∙ sym (at_much c.args.word.now l.byte-index l.value c.loop-byte-test.true (sym c.if-not-is_ascii_digit.ensures.value) (omega (arith, c.in_ok-checked_mul.ensures, c.from.ensures, c.in_err-value.ensures)))
     ∙ l.invariant.1
 
 pub loop-byte-preserved : goal.loop-byte-preserved
 loop-byte-preserved c =
     let l = c.loop-byte in
-    let value : c.in-ok-value.value ≡ l.value * 10 + (get_or c.args.word.now l.byte-index 0 - 48) = omega (arith, c.in-ok-checked-mul.ensures, c.from.ensures, c.in-ok-value.ensures) in (
-      omega (arith, c.in-ok-value.ensures),
+    let value : c.in_ok-value.value ≡ l.value * 10 + (get_or c.args.word.now l.byte-index 0 - 48) = omega (arith, c.in_ok-checked_mul.ensures, c.from.ensures, c.in_ok-value.ensures) in (
+      omega (arith, c.in_ok-value.ensures),
       ap (λ n. number_after n (drop (l.byte-index + 1) c.args.word.now)) value
-          ∙ sym (at_digit c.args.word.now l.byte-index l.value c.loop-byte-test.true (sym c.if-not-is-ascii-digit.ensures.value))
+          ∙ sym (at_digit c.args.word.now l.byte-index l.value c.loop-byte-test.true (sym c.if-not-is_ascii_digit.ensures.value))
           ∙ l.invariant.1,
     )
 

@@ -9,7 +9,7 @@ loop-preserved c =
     let l = c.loop in
     let w = 8 - (l.counter + 1) in
     let more : suc w ≡ 8 - l.counter = omega arith in
-    let moved : c.times-x-shifted.result ≡ next l.shifted = c.times-x-shifted.ensures ∙ times_next l.shifted l.invariant.1 in
+    let moved : c.times_x-shifted.result ≡ next l.shifted = c.times_x-shifted.ensures ∙ times_next l.shifted l.invariant.1 in
     let kept : bit_xor c.if-left-eq1.sum (quick w (l.left / 2) (next l.shifted)) ≡ bit_xor l.sum (quick (suc w) l.left l.shifted) =
     elim c.if-left-eq1.branch [
       | then-left-eq1 v ↦
@@ -19,7 +19,7 @@ loop-preserved c =
     ] in (
       ap (λ s. bit_xor c.if-left-eq1.sum (quick w (l.left / 2) s)) moved ∙ kept
           ∙ ap (λ k. bit_xor l.sum (quick k l.left l.shifted)) more ∙ l.invariant.0,
-      c.times-x-shifted.type-inv,
+      c.times_x-shifted.type_inv,
     )
 
 pub returns : goal.returns

@@ -10,11 +10,11 @@ loop-init c =
       sym (ap (λ t. t % 65537) (pow-suc v 0 ∙ ap (λ t. t * v) (pow-zero v) ∙ one-mul v) ∙ mod-eq_of_lt c.requires),
     )
 
-pub overflow-mul-product : goal.overflow-mul-product
-overflow-mul-product c = omega (arith, small_product c.loop.product c.loop.square _ _ c.loop.invariant.0 c.loop.invariant.1)
+pub overflow_mul-product : goal.overflow_mul-product
+overflow_mul-product c = omega (arith, small_product c.loop.product c.loop.square _ _ c.loop.invariant.0 c.loop.invariant.1)
 
-pub overflow-mul-square : goal.overflow-mul-square
-overflow-mul-square c = omega (arith, small_product c.loop.square c.loop.square _ _ c.loop.invariant.1 c.loop.invariant.1)
+pub overflow_mul-square : goal.overflow_mul-square
+overflow_mul-square c = omega (arith, small_product c.loop.square c.loop.square _ _ c.loop.invariant.1 c.loop.invariant.1)
 
 pub loop-preserved : goal.loop-preserved
 loop-preserved c =
@@ -25,8 +25,8 @@ loop-preserved c =
       times_powers v (2 ^ k) (2 ^ k) l.square l.square l.invariant.1 l.invariant.1 ∙ ap (λ t. v ^ t % 65537) (doubled k),
     )
 
-pub overflow-cast-result : goal.overflow-cast-result
-overflow-cast-result c =
+pub overflow_cast-result : goal.overflow_cast-result
+overflow_cast-result c =
     let below : c.loop.product < 65537 = rw c.loop.invariant.0 (mod-lt _ (lit< tt)) in
     omega (arith, below)
 

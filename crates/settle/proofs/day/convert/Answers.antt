@@ -22,8 +22,8 @@ loop-i-preserved c =
     let x = c.in-Some.ensures in
     let y = c.in-Some-new.ensures in (
       beyond_more ls l.i none h l.invariant.0 (omega (arith, x, c.in-Some.x.below)) (omega (arith, y, c.in-Some-new.y.below)),
-      column_more (λ d. d.litres) ls l.i none _ _ c.in-Some.x h c.in-ok-push.ensures.items x l.invariant.1,
-      column_more (λ d. d.fat) ls l.i none _ _ c.in-Some-new.y h c.in-ok-push-2.ensures.items y l.invariant.2,
+      column_more (λ d. d.litres) ls l.i none _ _ c.in-Some.x h c.in_ok-push.ensures.items x l.invariant.1,
+      column_more (λ d. d.fat) ls l.i none _ _ c.in-Some-new.y h c.in_ok-push-2.ensures.items y l.invariant.2,
     )
 
 pub returns : goal.returns

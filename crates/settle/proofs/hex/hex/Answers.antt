@@ -18,9 +18,9 @@ loop-b-preserved c =
     let l = c.loop-b in
     let bytes = c.args.bytes.now in
     let t = string_bytes l.text in
-    let one = c.in-ok-push.ensures in
-    let two = c.in-ok-push-2.ensures in
-    let last = c.in-ok-push-3.ensures in
+    let one = c.in_ok-push.ensures in
+    let two = c.in_ok-push-2.ensures in
+    let last = c.in_ok-push-3.ensures in
     three t (spaced (drop (l.b-index + 1) bytes))
     one.bytes (one.ascii (omega arith))
     two.bytes (two.ascii c.digit.ensures.bound ∙ ap (λ n. n ∷ []) c.digit.ensures.value)

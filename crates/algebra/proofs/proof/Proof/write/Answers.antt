@@ -40,10 +40,10 @@ returns g c =
     let wide_run : length code_run ≡ 2 * n * s.codec.size = codes_length s.codec g.met.G.Space.encodes s.means InTurn (2 * n) area (λ j h. (omega (arith, h, enough))) out (2 * n) (omega arith) in
     let stride = ap (λ t. 2 * n * t) c.width.ensures in
     let room = c.if-out-size.false in
-    let held = three_held code_n code_run out c.write.new.out c.write-run.new.out c.write.result c.write-run.result c.size-rounds-at.result
-    (omega (arith, size, c.size-size.ensures, parts, room)) c.write.ensures c.size-rounds-at.ensures.value c.write-run.ensures
-    code_fin c.write-finals.new.out c.write-finals.result (c.size-rounds-at.result + 2 * n * c.width.result) (omega (arith, size, c.size-size.ensures, parts, room))
-    (omega (arith, wide_run, stride, c.size-rounds-at.ensures.value)) c.write-finals.ensures in
+    let held = three_held code_n code_run out c.write.new.out c.write_run.new.out c.write.result c.write_run.result c.size-rounds_at.result
+    (omega (arith, size, c.size-size.ensures, parts, room)) c.write.ensures c.size-rounds_at.ensures.value c.write_run.ensures
+    code_fin c.write_finals.new.out c.write_finals.result (c.size-rounds_at.result + 2 * n * c.width.result) (omega (arith, size, c.size-size.ensures, parts, room))
+    (omega (arith, wide_run, stride, c.size-rounds_at.ensures.value)) c.write_finals.ensures in
     record {
       no_area = λ h. absurd (omega (arith, h, enough));
       written = λ _. written_as (sym code) (held_written _ out _ _ held (c.size-size.ensures ∙ sym size ∙ ap length code) (let e = ap length code in omega (arith, size, c.size-size.ensures, e, room)));

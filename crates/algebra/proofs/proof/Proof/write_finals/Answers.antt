@@ -9,7 +9,7 @@ returns-then-out-size g c =
     let self = c.args.self in
     let long : length self.summary ≡ 32 = search rules in
     let total = length_finals f.codec g.met.F.Field.encodes self.summary (f.means self.a_final) (f.means self.b_final) long in
-    too_short _ c.args.out.now (omega (arith, total, c.if-out-size.true, c.width.ensures, c.width-b-at.ensures))
+    too_short _ c.args.out.now (omega (arith, total, c.if-out-size.true, c.width.ensures, c.width-b_at.ensures))
 
 pub returns : goal.returns
 returns g c =
@@ -22,9 +22,9 @@ returns g c =
     let long_b = g.met.F.Field.encodes.sized (f.means self.b_final) in
     let room = c.if-out-size.false in
     let wide = c.width.ensures in
-    let wide_b = c.width-b-at.ensures in
+    let wide_b = c.width-b_at.ensures in
     let total = length_finals f.codec g.met.F.Field.encodes self.summary (f.means self.a_final) (f.means self.b_final) long in
     held_written _ c.args.out.now _ _
     (three_held self.summary a c.args.out.now c.put.new.out c.write.new.out c.put.result c.write.result 32 (omega (arith, long, long_a, room, wide, wide_b)) c.put.ensures (omega (arith, long)) c.write.ensures
-    b c.write-2.new.out c.write-2.result (32 + c.width-b-at.result) (omega (arith, long, long_a, long_b, room, wide, wide_b)) (omega (arith, long, long_a, wide_b)) c.write-2.ensures)
+    b c.write-2.new.out c.write-2.result (32 + c.width-b_at.result) (omega (arith, long, long_a, long_b, room, wide, wide_b)) (omega (arith, long, long_a, wide_b)) c.write-2.ensures)
     (omega (arith, total, wide, wide_b)) (omega (arith, total, room, wide, wide_b))

@@ -20,9 +20,9 @@ returns-then-out-size g c =
     let s = g.G.Space in
     let row = c.args.self.now.elements.now in
     let n = c.count-n.result in
-    let q = c.product-generator-q.result in
+    let q = c.product_generator-q.result in
     let long = row_long row n c.count-n.ensures c.args.self.now.odd in
-    let last = last_at row n q c.count-n.ensures c.product-generator-q.ensures in
+    let last = last_at row n q c.count-n.ensures c.product_generator-q.ensures in
     let size = setup_long s.means row n q long last s.codec g.met.G.Space.encodes in
     let wide : c.size-size.result ≡ setup_size s.codec n = rw c.count-n.ensures c.size-size.ensures in
     record {
@@ -31,8 +31,8 @@ returns-then-out-size g c =
       written = too_short _ c.args.out.now (omega (arith, size, wide, c.if-out-size.true));
     }
 
-pub write-run-requires : goal.write-run-requires
-write-run-requires g c =
+pub write_run-requires : goal.write_run-requires
+write_run-requires g c =
     let self = c.args.self.now in
     record {
       few = omega (arith, c.count-n.ensures, self.few);
@@ -44,10 +44,10 @@ returns g c =
     let s = g.G.Space in
     let row = c.args.self.now.elements.now in
     let n = c.count-n.result in
-    let q = c.product-generator-q.result in
+    let q = c.product_generator-q.result in
     let out = c.args.out.now in
     let long = row_long row n c.count-n.ensures c.args.self.now.odd in
-    let last = last_at row n q c.count-n.ensures c.product-generator-q.ensures in
+    let last = last_at row n q c.count-n.ensures c.product_generator-q.ensures in
     let code_q = s.codec.encode (s.means q) in
     let code_n = varint n in
     let code_run = encode_run s.codec (map s.means (in_order (Halves n) 0 (2 * n) row)) in
@@ -57,10 +57,10 @@ returns g c =
     let parts = ap length code ∙ length-append code_q (code_n ++ code_run) ∙ ap (λ t. length code_q + t) (length-append code_n code_run) in
     let first = g.met.G.Space.encodes.sized (s.means q) in
     let room = c.if-out-size.false in
-    let held = three_held code_q code_n out c.write.new.out c.write-2.new.out c.write.result c.write-2.result c.width-count-at.result
-    (omega (arith, size, wide, parts, room)) c.write.ensures (omega (arith, first, c.width-count-at.ensures)) c.write-2.ensures
-    code_run c.write-run.new.out c.write-run.result (c.width-count-at.result + c.size.result) (omega (arith, size, wide, parts, room))
-    (omega (arith, first, c.width-count-at.ensures, c.size.ensures.value)) c.write-run.ensures in
+    let held = three_held code_q code_n out c.write.new.out c.write-2.new.out c.write.result c.write-2.result c.width-count_at.result
+    (omega (arith, size, wide, parts, room)) c.write.ensures (omega (arith, first, c.width-count_at.ensures)) c.write-2.ensures
+    code_run c.write_run.new.out c.write_run.result (c.width-count_at.result + c.size.result) (omega (arith, size, wide, parts, room))
+    (omega (arith, first, c.width-count_at.ensures, c.size.ensures.value)) c.write_run.ensures in
     record {
       setup = setup_at s.means row n q long last;
       row_is = row_is s.means row n q long last;

@@ -11,7 +11,7 @@ rule k h = get_or-map-range_with_len (λ n. n ^ 249 % 251) 0 251 k k 0 h (omega 
 pub returns : goal.returns
 returns c = by_value _ _ (rule c.args.self.value c.args.self.below)
 
-pub invariant-of-result : goal.invariant-of-result
-invariant-of-result c =
+pub invariant_of-result : goal.invariant_of-result
+invariant_of-result c =
     let P : ℕ → Type 0 = λ n. n < 251 in
     (subst P (sym (rule c.args.self.value c.args.self.below)) (mod-lt _ (lit< tt)), tt)

@@ -1,10 +1,10 @@
 use Rattle.std.proofs.Common.{refl, mod-lt, lit<}
-use Rattle.algebra.proofs.Powers.{product_unit}
+use Rattle.algebra.specs.Powers.{product_unit}
 use Rattle.bench.specs.SquareLaws.{by_value}
 use Rattle.bench.proofs.squares.SquareSpace.add.Goals as goal
 
-pub invariant-of-result : goal.invariant-of-result
-invariant-of-result c = (mod-lt _ (lit< tt), (product_unit 503 251 c.args.self.value c.args.other.value refl c.args.self.unit c.args.other.unit, tt))
+pub invariant_of-result : goal.invariant_of-result
+invariant_of-result c = (mod-lt _ (lit< tt), (product_unit 503 251 c.args.self.value c.args.other.value refl c.args.self.unit c.args.other.unit, tt))
 
 pub returns : goal.returns
 returns c = by_value _ _ refl

@@ -1,10 +1,10 @@
 use Rattle.std.proofs.Common.{refl, mod-lt, lit<}
-use Rattle.algebra.proofs.Powers.{power_unit}
+use Rattle.algebra.specs.Powers.{power_unit}
 use Rattle.bench.specs.SquareLaws.{by_value}
 use Rattle.bench.proofs.squares.SquareSpace.neg.Goals as goal
 
-pub invariant-of-result : goal.invariant-of-result
-invariant-of-result c =
+pub invariant_of-result : goal.invariant_of-result
+invariant_of-result c =
     let made = c.power.ensures in
     (rw made (mod-lt _ (lit< tt)), (rw made (power_unit 503 251 c.args.self.value 250 refl c.args.self.unit), tt))
 
