@@ -2,7 +2,7 @@
 ghost use Rattle.std.specs.Prelude.{◌≡◌, ℕ, ◌%◌, ◌<◌, ◌≤◌, Some, None, refl};
 ghost use Rattle.algebra.specs.Modular.{residue, Residue};
 ghost use Rattle.bench.specs.Mod251.{Mod251 as Elem251, field251, codec251, below251, inverse251};
-ghost use Rattle.std.proofs.Common.{lit<, lit≤, rules, arith};
+ghost use Rattle.std.proofs.Common.{lit<, lit≤};
 ghost use Rattle.algebra.proofs.Residues.{modular_field, residue_numbers};
 ghost use Rattle.bench.specs.Mod251FieldLemmas.{inverts};
 ghost use Rattle.algebra.proofs.BigEndian.{numbers_encode};
@@ -51,13 +51,13 @@ impl Field for Mod251 {
 
     ghost codec = { codec251 };
 
-    ghost picked = { first_of (Prim.search rules, Prim.grind (arith, Self.row.coded.inj)) };
+    ghost picked = { λ x. refl };
 
     ghost lawful = { modular_field (lit< tt) inverse251 inverts refl };
 
     ghost encodes = { numbers_encode 1 (λ (x : Residue 251). x.value) _ (residue_numbers 1 (lit≤ tt)) };
 
-    ghost sized = { first_of (Prim.search rules, Prim.grind (arith, Self.row.coded.inj)) };
+    ghost sized = { (lit≤ tt, lit≤ tt) };
 
     fn width() -> usize {
         Self::SIZE

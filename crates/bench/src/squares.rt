@@ -1,8 +1,9 @@
 // The squares modulo 503 as a space over the integers modulo 251: sums are products, and s times v is v^s.
 ghost use Rattle.std.specs.Prelude.{◌≡◌, ℕ, ◌%◌, ◌^◌, ◌<◌, true, false, Some, None};
-ghost use Rattle.bench.specs.Squares.{Square as Elem503, square, squares as group503, power as powers, is_square, codec503};
-ghost use Rattle.bench.specs.SquareLaws.{squares_group};
-ghost use Rattle.std.proofs.Common.{rules, arith};
+ghost use Rattle.bench.specs.Squares.{Square as Elem503, square, squares as group503, power as powers, is_square, square_at, codec503};
+ghost use Rattle.bench.specs.SquareLaws.{squares_group, square_numbers};
+ghost use Rattle.algebra.proofs.BigEndian.{numbers_encode};
+ghost use Rattle.std.proofs.Common.{lit≤};
 
 use crate::mod251::Mod251;
 use algebra::bytes;
@@ -76,7 +77,9 @@ impl Space for Square {
 
     ghost lawful = { squares_group };
 
-    ghost sized = { first_of (Prim.search rules, Prim.grind (arith, Self.row.coded.inj)) };
+    ghost encodes = { numbers_encode 2 (λ (x : Elem503). x.value) square_at square_numbers };
+
+    ghost sized = { (lit≤ tt, lit≤ tt) };
 
     fn width() -> usize {
         Self::SIZE

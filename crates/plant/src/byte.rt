@@ -2,7 +2,9 @@
 ghost use Rattle.std.specs.Prelude.{◌≡◌, ◌%◌, refl};
 ghost use Rattle.plant.specs.ByteField.{Byte as Element, byte, byte_field, byte_codec, times};
 ghost use Rattle.plant.specs.ByteLaws.{byte_of, byte_laws};
-ghost use Rattle.std.proofs.Common.{rules};
+ghost use Rattle.std.proofs.Common.{lit≤};
+ghost use Rattle.algebra.proofs.BigEndian.{numbers_encode};
+ghost use Rattle.algebra.proofs.Residues.{residue_numbers};
 
 use algebra::bytes;
 use algebra::fault::ByteFault;
@@ -69,7 +71,9 @@ impl Field for Byte {
 
     ghost lawful = { byte_laws };
 
-    ghost sized = { Prim.search rules };
+    ghost encodes = { numbers_encode 1 (λ (x : Element). x.value) _ (residue_numbers 1 (lit≤ tt)) };
+
+    ghost sized = { (lit≤ tt, lit≤ tt) };
 
     fn width() -> usize {
         Self::SIZE

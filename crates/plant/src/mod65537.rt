@@ -2,7 +2,7 @@
 ghost use Rattle.std.specs.Prelude.{◌≡◌, ◌%◌, ◌^◌, ◌<◌, ◌≤◌, Some, None, refl};
 ghost use Rattle.algebra.specs.Modular.{residue, Residue};
 ghost use Rattle.plant.specs.Mod65537.{Mod65537 as Elem65537, field65537, codec65537, below65537, inverse65537};
-ghost use Rattle.std.proofs.Common.{lit<, lit≤, rules, arith};
+ghost use Rattle.std.proofs.Common.{lit<, lit≤};
 ghost use Rattle.algebra.proofs.Residues.{modular_field, residue_numbers};
 ghost use Rattle.plant.specs.Orders.{inverts};
 ghost use Rattle.algebra.proofs.BigEndian.{numbers_encode};
@@ -64,13 +64,13 @@ impl Field for Mod65537 {
 
     ghost codec = { codec65537 };
 
-    ghost picked = { first_of (Prim.search rules, Prim.grind (arith, Self.row.coded.inj)) };
+    ghost picked = { λ x. refl };
 
     ghost lawful = { modular_field (lit< tt) inverse65537 (λ x h. inverts x.value h x.below) refl };
 
     ghost encodes = { numbers_encode 4 (λ (x : Residue 65537). x.value) _ (residue_numbers 4 (lit≤ tt)) };
 
-    ghost sized = { first_of (Prim.search rules, Prim.grind (arith, Self.row.coded.inj)) };
+    ghost sized = { (lit≤ tt, lit≤ tt) };
 
     fn width() -> usize {
         Self::SIZE

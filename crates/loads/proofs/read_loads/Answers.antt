@@ -11,7 +11,7 @@ loop-rest-preserved-in-Blank c = at_blank c.loop-rest.invariant c.split_line.ens
 
 pub loop-rest-preserved : goal.loop-rest-preserved
 loop-rest-preserved c =
-    rw c.in_ok-push.ensures.items
+    rw c.in_ok-push-in-Load.ensures.items
     (at_load c.loop-rest.invariant c.split_line.ensures (false-eqb _ 0 c.loop-rest-test.ensures) _ c.in-Load.ensures)
 
 pub returns : goal.returns

@@ -10,4 +10,4 @@ returns-then-k-n c =
     let k = c.ilog2-k.result in
     let fits : 2 ^ k < 18446744073709551616 = omega (arith, c.ilog2-k.ensures.power_le) in
     power_false 64 c.args.n
-    (λ j e. no_power k c.args.n j c.ilog2-k.ensures.power_le c.ilog2-k.ensures.next-power-gt (λ same. c.if-k-n.true (ap (λ t. t % 18446744073709551616) (one-mul (2 ^ k)) ∙ mod-eq_of_lt fits ∙ same)) e)
+    (λ j e. no_power k c.args.n j c.ilog2-k.ensures.power_le c.ilog2-k.ensures.next_power_gt (λ same. c.if-k-n.true (ap (λ t. t % 18446744073709551616) (one-mul (2 ^ k)) ∙ mod-eq_of_lt fits ∙ same)) e)

@@ -16,7 +16,7 @@ returns-then-is_empty c =
     sym (ap said (no_word _ (sym c.split_word.ensures.word ∙ none)))
 
 -- the words that follow the first two
-rest : (c : Else-is-empty) → words_of c.split_word-2.result.1.now ≡ others (others (words_of c.args.line.now))
+rest : (c : Else-is_empty) → words_of c.split_word-2.result.1.now ≡ others (others (words_of c.args.line.now))
 rest c = c.split_word-2.ensures.more ∙ ap others c.split_word.ensures.more
 
 pub returns-then-not-is_empty : goal.returns-then-not-is_empty
