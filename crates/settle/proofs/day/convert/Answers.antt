@@ -8,11 +8,11 @@ use Rattle.settle.proofs.day.convert.Goals as goal
 abbrev none : Load
 none = record { litres = 0; fat = 0 }
 
-pub returns-in-default : goal.returns-in-default
-returns-in-default c = beyond_litres c.args.loads.now c.loop-i.i none c.loop-i-test.true c.loop-i.invariant.0 c.in-default.ensures
+pub returns-in_default : goal.returns-in_default
+returns-in_default c = beyond_litres c.args.loads.now c.loop-i.i none c.loop-i-test.true c.loop-i.invariant.0 c.in_default.ensures
 
-pub returns-in-default-new : goal.returns-in-default-new
-returns-in-default-new c = beyond_fat c.args.loads.now c.loop-i.i none c.loop-i-test.true c.loop-i.invariant.0 c.in-default-new.ensures
+pub returns-in_default-new : goal.returns-in_default-new
+returns-in_default-new c = beyond_fat c.args.loads.now c.loop-i.i none c.loop-i-test.true c.loop-i.invariant.0 c.in_default-new.ensures
 
 pub loop-i-preserved : goal.loop-i-preserved
 loop-i-preserved c =

@@ -14,4 +14,4 @@ returns c = by_value _ _ (rule c.args.self.value c.args.self.below)
 pub invariant_of-result : goal.invariant_of-result
 invariant_of-result c =
     let P : ℕ → Type 0 = λ n. n < 251 in
-    (subst P (sym (rule c.args.self.value c.args.self.below)) (mod-lt _ (lit< tt)), tt)
+    record { below = subst P (sym (rule c.args.self.value c.args.self.below)) (mod-lt _ (lit< tt)) }

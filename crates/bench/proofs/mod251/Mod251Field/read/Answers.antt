@@ -5,13 +5,13 @@ use Rattle.algebra.proofs.BigEndian.{read_some, read_none, read_short}
 use Rattle.algebra.proofs.Residues.{found, not_found}
 use Rattle.bench.proofs.mod251.Mod251Field.read.Goals as goal
 
-pub returns-in-default : goal.returns-in-default
-returns-in-default c = sym (read_short codec251 (drop c.args.at c.args.bytes.now) c.args.at (c.in-default.ensures (lit≤ tt)))
+pub returns-in_default : goal.returns-in_default
+returns-in_default c = sym (read_short codec251 (drop c.args.at c.args.bytes.now) c.args.at (c.in_default.ensures (lit≤ tt)))
 
-pub returns-in-default-new : goal.returns-in-default-new
-returns-in-default-new c =
+pub returns-in_default-new : goal.returns-in_default-new
+returns-in_default-new c =
     sym (read_none 1 (λ (x : Residue 251). x.value) (below_p 251) (drop c.args.at c.args.bytes.now) c.args.at c.in-Some.value c.in-Some.ensures.1
-    (not_found 251 c.in-Some.value c.in-default-new.ensures))
+    (not_found 251 c.in-Some.value c.in_default-new.ensures))
 
 pub returns : goal.returns
 returns c =

@@ -4,13 +4,13 @@ use Rattle.algebra.proofs.BigEndian.{read_some, read_none, read_short}
 use Rattle.bench.specs.SquareLaws.{found, not_found}
 use Rattle.bench.proofs.squares.SquareSpace.read.Goals as goal
 
-pub returns-in-default : goal.returns-in-default
-returns-in-default c = sym (read_short codec503 (drop c.args.at c.args.bytes.now) c.args.at (c.in-default.ensures (lit≤ tt)))
+pub returns-in_default : goal.returns-in_default
+returns-in_default c = sym (read_short codec503 (drop c.args.at c.args.bytes.now) c.args.at (c.in_default.ensures (lit≤ tt)))
 
-pub returns-in-default-new : goal.returns-in-default-new
-returns-in-default-new c =
+pub returns-in_default-new : goal.returns-in_default-new
+returns-in_default-new c =
     sym (read_none 2 (λ (x : Square). x.value) square_at (drop c.args.at c.args.bytes.now) c.args.at c.in-Some.value c.in-Some.ensures.1
-    (not_found c.in-Some.value c.in-default-new.ensures))
+    (not_found c.in-Some.value c.in_default-new.ensures))
 
 pub returns : goal.returns
 returns c =

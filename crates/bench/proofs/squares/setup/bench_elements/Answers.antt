@@ -12,7 +12,7 @@ unit : (k : ℕ) → k < 65 → bench_value k ^ 251 % 503 ≡ 1
 unit k h = eqb→eq _ 1 (below (λ n. eqb (bench_value n ^ 251 % 503) 1) 65 tt k h)
 
 pub invariant_of-row-in-loop-k : goal.invariant_of-row-in-loop-k
-invariant_of-row-in-loop-k c = (mod-lt _ (lit< tt), (unit c.loop-k.k c.loop-k-test.true, tt))
+invariant_of-row-in-loop-k c = record { below = mod-lt _ (lit< tt); unit = unit c.loop-k.k c.loop-k-test.true }
 
 pub loop-k-preserved : goal.loop-k-preserved
 loop-k-preserved c =

@@ -5,8 +5,8 @@ use Rattle.algebra.proofs.BigEndian.{read_some, read_short}
 use Rattle.algebra.proofs.Residues.{found}
 use Rattle.plant.proofs.byte.ByteField.read.Goals as goal
 
-pub returns-in-default : goal.returns-in-default
-returns-in-default c = sym (read_short byte_codec (drop c.args.at c.args.bytes.now) c.args.at (c.in-default.ensures (lit≤ tt)))
+pub returns-in_default : goal.returns-in_default
+returns-in_default c = sym (read_short byte_codec (drop c.args.at c.args.bytes.now) c.args.at (c.in_default.ensures (lit≤ tt)))
 
 pub returns : goal.returns
 returns c =
