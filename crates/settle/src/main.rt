@@ -10,6 +10,7 @@ use algebra::setup::Setup;
 use bench::mod251::Mod251;
 use bench::squares::setup::bench_elements;
 use loads::{Load, LoadsFault, read_loads};
+use std::process::ExitCode;
 use std::{env, fs};
 
 mod bytes;
@@ -81,12 +82,13 @@ fn run(rt: &HostRuntime) -> Result<(), Stop> {
     settle(rt, loads.as_slice())
 }
 
-fn main(rt: HostRuntime) -> Result<(), Stop> {
+// A stop is told once, in words of its own, and ends the program with status 1.
+fn main(rt: HostRuntime) -> ExitCode {
     match run(&rt) {
-        Ok(()) => Ok(()),
+        Ok(()) => ExitCode::SUCCESS,
         Err(stop) => {
             let _ = eprintln!(rt; "settle: {stop}");
-            Err(stop)
+            ExitCode::FAILURE
         }
     }
 }
