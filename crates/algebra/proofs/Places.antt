@@ -1,7 +1,6 @@
 -- What stands in an area after elements were put in their places, and what is taken from them. Assumes nothing.
-use Rattle.std.proofs.Common.{◌≡◌, ℕ, zero, suc, ◌+◌, ◌*◌, ◌/◌, ◌%◌, ◌<◌, ◌≤◌, List, [], ◌∷◌, ◌++◌, map, length, take, drop, set, sym, refl, ap, ◌∙◌, ap₂, append_assoc, append-nil, arith, length-append, length-drop, take-add}
+use Rattle.std.proofs.Common.{◌≡◌, ℕ, zero, suc, ◌+◌, ◌*◌, ◌/◌, ◌%◌, ◌≤◌, List, [], ◌∷◌, ◌++◌, map, length, take, drop, set, sym, refl, ap, ◌∙◌, ap₂, append_assoc, arith, length-append, length-drop, take-add}
 use Rattle.std.proofs.lemmas.List.{map-set, set_at, take-append-drop, length-take-le, length-map, take_at, drop_at, drop-drop}
-use Rattle.algebra.specs.declared.run.Order.{Order}
 use Rattle.algebra.specs.declared.run.Order.TheVariants.{InTurn, Halves}
 use Rattle.algebra.specs.Runs.{slot, in_order, with_places, put_in, Placed, in_turn, pairs_of}
 

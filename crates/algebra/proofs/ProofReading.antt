@@ -1,5 +1,5 @@
 -- Reading a proof accepts the encodings of proofs that are permitted and have room, and nothing else. Assumes nothing.
-use Rattle.std.proofs.Common.{◌≡◌, ℕ, ◌+◌, ◌*◌, ◌^◌, ◌<◌, ◌≤◌, Bool, true, false, cond, ◌||◌, eqb, leb, List, [], ◌∷◌, ◌++◌, map, length, take, drop, Ok, Err, Result, sym, refl, ap, ◌∙◌, subst, ap₂, inl, inr, add_assoc, arith, length-append, length-drop, length-take, drop-drop, pow_mono}
+use Rattle.std.proofs.Common.{◌≡◌, ℕ, ◌+◌, ◌*◌, ◌^◌, ◌<◌, ◌≤◌, Bool, true, false, cond, ◌||◌, eqb, leb, List, ◌++◌, map, length, take, drop, Ok, Err, Result, sym, refl, ap, ◌∙◌, subst, ap₂, inl, inr, add_assoc, arith, length-append, length-drop, length-take, drop-drop, pow_mono}
 use mathlib.Core.Option.{none}
 use Rattle.std.proofs.lemmas.List.{length-take-le, take-map, length-map}
 use Rattle.std.proofs.lemmas.Bool.{leb-true, le-leb, lt-leb, eqb-true, cond-true, cases_lt}
@@ -10,8 +10,8 @@ use Rattle.algebra.specs.declared.proof.Proof.{Proof}
 use Rattle.algebra.specs.Codec.{Codec, IsCodec}
 use Rattle.algebra.specs.Bytes.{read_one, read_bytes}
 use Rattle.algebra.specs.Varint.{varint, read_count}
-use Rattle.algebra.specs.Runs.{in_order, in_turn, pairs_of, encode_run, Run, read_run, unless, with_places, Placed, Reading, refuse, go_on, provided}
-use Rattle.algebra.specs.Proofs.{ProofOf, FinalsOf, finals_of, finals_read, proof_of, permits_rounds, encode_finals, read_finals, encode_proof, proof_size, read_rounds, read_proof, AcceptableProof, AcceptsProofs, ReadsProof}
+use Rattle.algebra.specs.Runs.{in_order, in_turn, pairs_of, encode_run, Run, read_run, unless, with_places, Placed, Reading, refuse}
+use Rattle.algebra.specs.Proofs.{ProofOf, FinalsOf, finals_of, finals_read, proof_of, permits_rounds, encode_finals, read_finals, encode_proof, proof_size, read_rounds, read_proof, AcceptableProof, ReadsProof}
 use Rattle.algebra.proofs.Reading.{and_then_ok, split_codes, join_codes, read_only, read_each}
 use Rattle.algebra.proofs.Varints.{accepts_counts}
 use Rattle.algebra.proofs.InOrder.{length_run}

@@ -1,12 +1,12 @@
 -- The loop that reads a run of elements, turn by turn. Assumes nothing.
-use Rattle.std.proofs.Common.{◌≡◌, ℕ, zero, suc, ◌+◌, ◌-◌, ◌*◌, ◌<◌, ◌≤◌, List, [], ◌∷◌, map, length, take, drop, set, Ok, Err, Result, sym, refl, ap, ◌∙◌, suc-mul, add-mul, add_comm, zero-mul, arith, length-set, drop-drop}
-use mathlib.Core.Option.{none, some}
+use Rattle.std.proofs.Common.{◌≡◌, ℕ, zero, suc, ◌+◌, ◌-◌, ◌*◌, ◌<◌, ◌≤◌, List, [], ◌∷◌, length, take, drop, set, Ok, Err, Result, sym, refl, ap, ◌∙◌, suc-mul, add-mul, add_comm, zero-mul, arith, length-set, drop-drop}
+use mathlib.Core.Option.{none}
 use native.Mathlib.Nat.{sub-zero}
 use Rattle.algebra.specs.declared.fault.ByteFault.{ByteFault}
 use Rattle.algebra.specs.declared.run.Order.{Order}
 use Rattle.algebra.specs.Codec.{Codec, IsCodec}
 use Rattle.algebra.specs.Bytes.{read_one}
-use Rattle.algebra.specs.Runs.{slot, with_places, put_in, Placed, Run, encode_run, and_more, read_run, unless, ReadsRun}
+use Rattle.algebra.specs.Runs.{slot, with_places, Placed, Run, encode_run, and_more, read_run, unless, ReadsRun}
 use Rattle.algebra.proofs.Reading.{split_codes, join_codes, read_only, read_each}
 
 pub placed_none : {G V : Type 0} (means : G → V) (area : List G) → Placed means [] area area

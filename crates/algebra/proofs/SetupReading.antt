@@ -1,5 +1,5 @@
 -- Reading a setup accepts the encodings of setups that are permitted and have room, and nothing else. Assumes nothing.
-use Rattle.std.proofs.Common.{◌≡◌, ℕ, ◌+◌, ◌*◌, ◌/◌, ◌%◌, ◌<◌, ◌≤◌, true, leb, List, [], ◌∷◌, ◌++◌, map, length, take, drop, Ok, Err, Result, sym, refl, ap, ◌∙◌, subst, ap₂, inl, inr, le_trans, add_assoc, arith, length-append, drop-drop}
+use Rattle.std.proofs.Common.{◌≡◌, ℕ, ◌+◌, ◌*◌, ◌%◌, ◌<◌, ◌≤◌, true, leb, List, ◌∷◌, ◌++◌, map, length, take, drop, Ok, Err, Result, sym, refl, ap, ◌∙◌, subst, inl, inr, le_trans, add_assoc, arith, length-append, drop-drop}
 use mathlib.Core.Option.{none}
 use native.Mathlib.Nat.{min-le_right}
 use Rattle.std.proofs.lemmas.Bool.{le-leb, lt-leb, leb-true, cases_lt}
@@ -10,8 +10,8 @@ use Rattle.algebra.specs.declared.run.Order.TheVariants.{Halves}
 use Rattle.algebra.specs.Codec.{Codec, IsCodec}
 use Rattle.algebra.specs.Bytes.{read_one}
 use Rattle.algebra.specs.Varint.{varint, read_count}
-use Rattle.algebra.specs.Runs.{slot, in_turn, pairs_of, encode_run, Run, read_run, unless, with_places, Placed, Reading, refuse, go_on, provided}
-use Rattle.algebra.specs.SetupCode.{SetupOf, row_of, most_pairs, encode_setup, read_pairs, read_setup, Acceptable, HasRow, AcceptsSetups, ReadsSetup}
+use Rattle.algebra.specs.Runs.{slot, in_turn, pairs_of, encode_run, Run, read_run, unless, with_places, Placed, Reading, refuse}
+use Rattle.algebra.specs.SetupCode.{SetupOf, most_pairs, encode_setup, read_pairs, read_setup, Acceptable, HasRow, ReadsSetup}
 use Rattle.algebra.proofs.Reading.{split_codes, join_codes, read_only, read_each}
 use Rattle.algebra.proofs.Varints.{accepts_counts}
 use Rattle.algebra.proofs.InOrder.{length_run}

@@ -1,6 +1,6 @@
 -- The setup that a row is, and its code. Assumes nothing.
-use Rattle.std.proofs.Common.{◌≡◌, ℕ, zero, suc, ◌+◌, ◌*◌, ◌/◌, ◌%◌, List, [], ◌∷◌, ◌++◌, map, length, get_or, take, drop, sym, refl, ap, ◌∙◌, ap₂, add_assoc, arith, length-append, length-drop}
-use Rattle.std.proofs.lemmas.List.{map-append, length-map, take-map, drop-map, take-append-drop, drop-drop, length-take-le, drop_all, drop_more, get_or-map}
+use Rattle.std.proofs.Common.{◌≡◌, ℕ, zero, suc, ◌+◌, ◌*◌, List, [], ◌∷◌, ◌++◌, map, length, get_or, take, drop, sym, refl, ap, ◌∙◌, ap₂, arith, length-append, length-drop}
+use Rattle.std.proofs.lemmas.List.{map-append, length-map, take-map, drop-map, take-append-drop, drop-drop, length-take-le, drop_all, drop_more}
 use Rattle.algebra.specs.declared.run.Order.{Order}
 use Rattle.algebra.specs.declared.run.Order.TheVariants.{Halves}
 use Rattle.algebra.specs.Codec.{Codec, IsCodec}

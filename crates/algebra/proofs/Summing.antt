@@ -1,5 +1,5 @@
 -- The turns of loops that sum over slices. Assumes nothing.
-use Rattle.std.proofs.Common.{◌≡◌, ℕ, zero, suc, ◌+◌, ◌-◌, ◌<◌, List, [], ◌∷◌, map, length, get_or, drop, sym, refl, ap, ◌∙◌, ap₂}
+use Rattle.std.proofs.Common.{◌≡◌, ℕ, suc, ◌+◌, ◌<◌, List, [], ◌∷◌, map, length, get_or, drop, sym, refl, ap, ◌∙◌, ap₂}
 use Rattle.std.proofs.lemmas.List.{drop_more}
 use Rattle.algebra.specs.Structures.{FieldOps, IsField, GroupOps, IsGroup, with_multiples, additive}
 use Rattle.algebra.specs.Sums.{lin, powers}

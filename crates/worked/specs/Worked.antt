@@ -1,5 +1,5 @@
 -- Worked cases of the definitions. Assumes nothing.
-use Rattle.std.specs.Prelude.{◌≡◌, ◌<◌, List, [], ◌∷◌, map, take, refl}
+use Rattle.std.specs.Prelude.{◌≡◌, List, [], ◌∷◌, map, take, refl}
 use Rattle.std.proofs.Common.{lit<}
 use Rattle.algebra.specs.Modular.{residue}
 use Rattle.bench.specs.Mod251.{Mod251, field251, codec251}

@@ -1,7 +1,6 @@
 use Rattle.std.proofs.Common.{◌≡◌, ℕ, ◌+◌, ◌*◌, ◌^◌, ◌<◌, ◌≤◌, [], ◌∷◌, ◌++◌, length, get_or, take, drop, sym, ap, ◌∙◌, pow-suc, add-one, arith, lit<, length-drop}
 use native.Mathlib.Nat.{pow-le-pow_right}
 use Rattle.std.proofs.lemmas.List.{take_more, get_or-drop}
-use Rattle.algebra.specs.Numbered.{big_endian}
 use Rattle.algebra.proofs.BigEndian.{big_endian_push}
 use Rattle.algebra.proofs.bytes.number_at.Goals as goal
 

@@ -1,4 +1,4 @@
-use Rattle.std.proofs.Common.{◌≡◌, ◌^◌, ◌≤◌, ◌||◌, eqb, ltb, leb, sym, ap, ◌∙◌, arith, pow_mono, rules}
+use Rattle.std.proofs.Common.{◌≡◌, ◌^◌, ◌≤◌, ◌||◌, leb, sym, ap, ◌∙◌, arith, pow_mono, rules}
 use Rattle.std.proofs.lemmas.Bool.{le-ltb, lt-leb, ltb-true, ne_eqb}
 use Rattle.algebra.proofs.proof.permits.Goals as goal
 

@@ -1,4 +1,4 @@
-use Rattle.std.proofs.Common.{◌+◌, ◌≤◌, length, drop, Err, sym, ap, ◌∙◌, arith, length-drop, rules}
+use Rattle.std.proofs.Common.{Err, sym, ap, ◌∙◌, rules}
 use Rattle.std.proofs.lemmas.Result.{err_from_is_err_and}
 use Rattle.algebra.proofs.Reading.{read_within}
 use Rattle.algebra.proofs.Running.{going_none, going_more, going_refused, going_done}

@@ -1,4 +1,4 @@
-use Rattle.std.proofs.Common.{◌≡◌, ◌*◌, ◌<◌, ◌≤◌, length, arith}
+use Rattle.std.proofs.Common.{arith}
 use Rattle.algebra.proofs.InOrder.{wrote_none, wrote_short, wrote_more, wrote_all}
 use Rattle.algebra.proofs.run.write_run.Goals as goal
 

@@ -1,4 +1,4 @@
-use Rattle.std.proofs.Common.{◌≡◌, ◌+◌, ◌*◌, ◌/◌, ◌%◌, ◌^◌, ◌<◌, ◌≤◌, sym, ap, ◌∙◌, mod-lt, mod-eq_of_lt, mul-le-mul, one-mul, mul-one, arith, lit<}
+use Rattle.std.proofs.Common.{◌≡◌, ◌+◌, ◌*◌, ◌/◌, ◌%◌, ◌^◌, ◌≤◌, sym, ap, ◌∙◌, mod-lt, mod-eq_of_lt, mul-le-mul, one-mul, mul-one, arith, lit<}
 use native.Mathlib.Nat.{pow-zero}
 use Rattle.bench.specs.SquareLaws.{even_step, odd_step}
 use Rattle.bench.proofs.squares.power.Goals as goal

@@ -1,4 +1,4 @@
-use Rattle.std.proofs.Common.{take, sym, ap, ◌∙◌, arith}
+use Rattle.std.proofs.Common.{sym, ap, ◌∙◌, arith}
 use Rattle.std.proofs.lemmas.List.{at_drop_all, take_all}
 use Rattle.loads.specs.declared.Load.{Load}
 use Rattle.settle.specs.Day.{first_beyond, litres_of, fat_of}

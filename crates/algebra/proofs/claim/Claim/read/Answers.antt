@@ -1,4 +1,4 @@
-use Rattle.std.proofs.Common.{◌≡◌, ◌+◌, sym, ap, ap₂}
+use Rattle.std.proofs.Common.{◌≡◌, ◌+◌, sym, ap₂}
 use Rattle.std.proofs.lemmas.Result.{err_from_is_err_and}
 use Rattle.algebra.specs.Claims.{claim_of, read_claim, product_at, y_at, log_len_at}
 use Rattle.algebra.proofs.Reading.{handed_on, refused_commitment, refused_product, refused_y, refused_log_len, read_whole, accepts_claims}

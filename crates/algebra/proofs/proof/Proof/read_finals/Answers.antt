@@ -1,6 +1,6 @@
-use Rattle.std.proofs.Common.{◌≡◌, ◌+◌, sym, refl, ap, ap₂, arith, rules}
+use Rattle.std.proofs.Common.{◌+◌, sym, refl, ap, ap₂, arith, rules}
 use Rattle.std.proofs.lemmas.Result.{err_from_is_err_and}
-use Rattle.algebra.specs.Proofs.{finals_of, read_finals}
+use Rattle.algebra.specs.Proofs.{finals_of}
 use Rattle.algebra.proofs.Reading.{handed_on, read_within}
 use Rattle.algebra.proofs.ProofReading.{bytes_within, refused_summary, refused_a, refused_b, read_all}
 use Rattle.algebra.proofs.proof.Proof.read_finals.Goals as goal

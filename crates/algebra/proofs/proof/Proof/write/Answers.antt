@@ -1,8 +1,8 @@
-use Rattle.std.proofs.Common.{◌≡◌, ◌+◌, ◌*◌, ◌≤◌, List, ◌++◌, map, length, sym, ap, ◌∙◌, arith, length-append, rules}
+use Rattle.std.proofs.Common.{◌≡◌, ◌+◌, ◌*◌, ◌++◌, map, length, sym, ap, ◌∙◌, arith, length-append, rules}
 use Rattle.algebra.specs.declared.run.Order.TheVariants.{InTurn}
 use Rattle.algebra.specs.Varint.{varint}
 use Rattle.algebra.specs.Runs.{in_order, encode_run}
-use Rattle.algebra.specs.Proofs.{encode_finals, encode_proof, proof_of, proof_size}
+use Rattle.algebra.specs.Proofs.{encode_finals, proof_of, proof_size}
 use Rattle.algebra.proofs.ProofReading.{proof_rounds, proof_code, proof_length}
 use Rattle.algebra.proofs.InOrder.{codes_length}
 use Rattle.algebra.proofs.Writing.{three_held, held_written, too_short, written_as}

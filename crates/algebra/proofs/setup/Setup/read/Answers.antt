@@ -1,7 +1,5 @@
-use Rattle.std.proofs.Common.{◌≡◌, ℕ, ◌+◌, ◌*◌, ◌≤◌, length, set, Ok, Err, sym, refl, ap, ◌∙◌, arith, length-set}
+use Rattle.std.proofs.Common.{◌*◌, length, Ok, Err, refl, ap, ◌∙◌, arith, length-set}
 use Rattle.std.proofs.lemmas.Result.{err_from_is_err_and}
-use Rattle.algebra.specs.Runs.{read_run}
-use Rattle.algebra.specs.SetupCode.{most_pairs}
 use Rattle.algebra.proofs.SetupReading.{reads_setup, setup_refused_q, setup_refused_count, setup_too_many, setup_no_room, setup_pairs, halves_within}
 use Rattle.algebra.proofs.Steps.{unless_refused, unless_ended}
 use Rattle.algebra.proofs.Running.{placed_none, placed_more}

@@ -1,4 +1,4 @@
-use Rattle.std.proofs.Common.{◌≡◌, ℕ, ◌+◌, ◌*◌, ◌/◌, ◌%◌, ◌≤◌, List, ◌++◌, map, length, get_or, sym, ap, ◌∙◌, arith, length-append}
+use Rattle.std.proofs.Common.{◌≡◌, ℕ, ◌+◌, ◌*◌, ◌/◌, ◌%◌, List, ◌++◌, map, length, get_or, sym, ap, ◌∙◌, arith, length-append}
 use Rattle.algebra.specs.declared.run.Order.TheVariants.{Halves}
 use Rattle.algebra.specs.Varint.{varint}
 use Rattle.algebra.specs.Runs.{in_order, encode_run}

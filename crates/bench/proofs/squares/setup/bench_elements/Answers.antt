@@ -1,4 +1,4 @@
-use Rattle.std.proofs.Common.{◌≡◌, ℕ, ◌+◌, ◌%◌, ◌^◌, ◌<◌, eqb, [], ◌∷◌, ◌++◌, map, sym, ap, ◌∙◌, mod-lt, arith, lit<, eqb→eq, length-set}
+use Rattle.std.proofs.Common.{◌≡◌, ℕ, ◌%◌, ◌^◌, ◌<◌, eqb, [], ◌∷◌, ◌++◌, map, sym, ap, ◌∙◌, mod-lt, arith, lit<, eqb→eq, length-set}
 use Rattle.std.proofs.lemmas.List.{take_all, take_more_set, map_push}
 use Rattle.std.proofs.lemmas.List.FromFn.{map-range_with_len_more}
 use Rattle.std.specs.List.{range_with_len}
