@@ -1,5 +1,5 @@
 pub mod Mod251
 pub mod Squares
 pub mod Bench
-pub mod Mod251FieldLemmas
+pub mod Mod251Laws
 pub mod SquareLaws

@@ -45,7 +45,7 @@ overflow_add-count_at g c =
     omega (arith, wide.1, varint_few c.in_ok-count.count.0, c.width-count_at.ensures, g.met.G.Space.sized.1)
 
 pub read_run-requires : goal.read_run-requires
-read_run-requires g c = λ j h. rw (length-set c.args.area.now (2 * c.in_ok-count.count.0) c.in_ok-q.q) (let within = halves_within c.in_ok-count.count.0 j h in omega (arith, within, c.if-area-n.false))
+read_run-requires g c = λ j h. rw length-set (let within = halves_within c.in_ok-count.count.0 j h in omega (arith, within, c.if-area-n.false))
 
 pub returns-in_err-end : goal.returns-in_err-end
 returns-in_err-end g c =

@@ -1,3 +1,4 @@
+-- The inverses modulo 251 are inverses. Assumes nothing.
 use Rattle.std.specs.Prelude.{◌≡◌, suc, ◌-◌, ◌*◌, ◌%◌, ◌^◌, ◌<◌, nat_eq}
 use Rattle.std.proofs.Common.{arith, eqb→eq}
 use Rattle.algebra.specs.Modular.{Residue}
