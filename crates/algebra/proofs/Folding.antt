@@ -49,13 +49,13 @@ module _ {E V : Type 0} (S : SpaceOps E V) (u v : E) where
     folding_none = record { done = refl; rest = refl; long = refl }
 
     module _ (i : ℕ) (area : List G) (f : Folding i area) where
-      module _ (a : G) (is-a : a ≡ get_or area i a) (below : i < mid) (inside : i < length area) where
+      module _ (a : G) (is_a : a ≡ get_or area i a) (below : i < mid) (inside : i < length area) where
         low : drop i lo ≡ means a ∷ drop (i + 1) lo
         low =
             let l = length-map before means in
             let in_all : i < length all = omega (arith, l, f.long) in
             let in_lo : i < length lo = (let t = length-take mid all in omega (arith, t)) in
-            let entry : get_or lo i (means a) ≡ means a = get_or-take mid all i (means a) below ∙ get_or-map means before i a (means a) (omega (arith, f.long)) ∙ ap means (sym (same_from area before i i a f.rest (omega arith)) ∙ sym is-a) in
+            let entry : get_or lo i (means a) ≡ means a = get_or-take mid all i (means a) below ∙ get_or-map means before i a (means a) (omega (arith, f.long)) ∙ ap means (sym (same_from area before i i a f.rest (omega arith)) ∙ sym is_a) in
             left_at lo i (means a) in_lo (sym entry)
 
         next : (x : G) (rest : List V) → mix S u (drop i lo) v (drop i hi) ≡ means x ∷ rest → rest ≡ mix S u (drop (i + 1) lo) v (drop (i + 1) hi) → Folding (i + 1) (set area i x)

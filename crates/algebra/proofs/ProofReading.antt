@@ -41,15 +41,15 @@ module _ {E : Type 0} (n : Codec E) (rounds at a_at b_at : ℕ) (bytes : List �
     unfolding read_finals
     refused_a e is = rw (← is_s, ← rw is_at at is) refl
 
-    module _ (a : E) (is-a : Ok a ≡ read_one n a_at (drop a_at bytes)) (is-bt : b_at ≡ at + 32 + n.size) where
+    module _ (a : E) (is_a : Ok a ≡ read_one n a_at (drop a_at bytes)) (is_bt : b_at ≡ at + 32 + n.size) where
       pub refused_b : (e : ByteFault) → Err e ≡ read_one n b_at (drop b_at bytes) → read_finals n rounds at bytes ≡ Err e
       unfolding read_finals
-      refused_b e is = rw (← is_s, ← rw is_at at is-a, ← rw is-bt at is) refl
+      refused_b e is = rw (← is_s, ← rw is_at at is_a, ← rw is_bt at is) refl
 
       pub read_all : (b : E) (end : ℕ) → Ok b ≡ read_one n b_at (drop b_at bytes) → end ≡ at + 32 + n.size + n.size
           → read_finals n rounds at bytes ≡ Ok (record { rounds = rounds; summary = s; a_final = a; b_final = b }, end)
       unfolding read_finals
-      read_all b end is is-end = rw (← is_s, ← rw is_at at is-a, ← rw is-bt at is, is-end) refl
+      read_all b end is is_end = rw (← is_s, ← rw is_at at is_a, ← rw is_bt at is, is_end) refl
 
 pub length_finals : {E : Type 0} (n : Codec E) → IsCodec n → (s : List ℕ) (a b : E) → length s ≡ 32 → length (encode_finals n s a b) ≡ 32 + n.size + n.size
 length_finals n laws s a b long =
@@ -127,9 +127,9 @@ was_ok f (Ok q) fin used e =
 was_ok f (Err d) fin used e = absurd (let z : ◌≡◌ {A = ℕ} 0 1 = cc in omega arith)
 
 same_proof : {E V : Type 0} (p o : ProofOf E V) → p.pairs ≡ o.pairs → p.summary ≡ o.summary → p.a_final ≡ o.a_final → p.b_final ≡ o.b_final → p ≡ o
-same_proof {E} {V} p o is-pairs is-summary is-a is_b =
+same_proof {E} {V} p o is_pairs is_summary is_a is_b =
     let made : List (V × V) → List ℕ → E → E → ProofOf E V = λ ps s a b. record { pairs = ps; summary = s; a_final = a; b_final = b } in
-    ap₂ (λ ps s. made ps s p.a_final p.b_final) is-pairs is-summary ∙ ap₂ (λ a b. made o.pairs o.summary a b) is-a is_b
+    ap₂ (λ ps s. made ps s p.a_final p.b_final) is_pairs is_summary ∙ ap₂ (λ a b. made o.pairs o.summary a b) is_a is_b
 
 -- A proof over an area that has room for its rounds.
 module _ {E V : Type 0} (n : Codec E) (e : Codec V) {F G : Type 0} (f : F → E) (g : G → V) where

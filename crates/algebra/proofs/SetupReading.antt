@@ -120,24 +120,24 @@ module _ {V : Type 0} (c : Codec V) (highest room : ℕ) (bytes : List ℕ) wher
   unfolding read_setup
   setup_refused_q e is = rw (← is) refl
 
-  module _ (q : V) (at : ℕ) (is-q : Ok q ≡ read_one c 0 bytes) (is_at : at ≡ c.size) where
+  module _ (q : V) (at : ℕ) (is_q : Ok q ≡ read_one c 0 bytes) (is_at : at ≡ c.size) where
     pub setup_refused_count : (e : ByteFault) → Err e ≡ read_count at (drop at bytes) → read_setup c highest room bytes ≡ refuse e
     unfolding read_setup
-    setup_refused_count e is = rw (← is-q, ← rw is_at at is) refl
+    setup_refused_count e is = rw (← is_q, ← rw is_at at is) refl
 
     module _ (n wide : ℕ) (is_count : Ok (n, wide) ≡ read_count at (drop at bytes)) where
       pub setup_too_many : most_pairs highest < n → read_setup c highest room bytes ≡ refuse (TooMany at)
       unfolding read_setup
-      setup_too_many h = rw (← is-q, ← rw is_at at is_count, lt-leb n (most_pairs highest) h, is_at) refl
+      setup_too_many h = rw (← is_q, ← rw is_at at is_count, lt-leb n (most_pairs highest) h, is_at) refl
 
       module _ (few : n ≤ most_pairs highest) where
         pub setup_no_room : room < 2 * n + 1 → read_setup c highest room bytes ≡ refuse (Area at)
         unfolding read_setup
-        setup_no_room h = rw (← is-q, ← rw is_at at is_count, le-leb n (most_pairs highest) few, lt-leb (2 * n + 1) room h, is_at) refl
+        setup_no_room h = rw (← is_q, ← rw is_at at is_count, le-leb n (most_pairs highest) few, lt-leb (2 * n + 1) room h, is_at) refl
 
         pub setup_pairs : 2 * n + 1 ≤ room → read_setup c highest room bytes ≡ read_pairs c q n (at + wide) bytes
         unfolding read_setup
-        setup_pairs h = rw (← is-q, ← rw is_at at is_count, le-leb n (most_pairs highest) few, le-leb (2 * n + 1) room h, is_at) refl
+        setup_pairs h = rw (← is_q, ← rw is_at at is_count, le-leb n (most_pairs highest) few, le-leb (2 * n + 1) room h, is_at) refl
 
 -- Each place of the pairs is within their row.
 pub halves_within : (n j : ℕ) → j < 2 * n → slot (Halves n) j < 2 * n

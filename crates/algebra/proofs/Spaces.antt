@@ -137,7 +137,7 @@ module _ {E V : Type 0} {K : FieldOps E} {S : SpaceOps E V} (field : IsField K) 
   lin_split (suc m) (s ∷ ss) (v₀ ∷ vs) = ap (S.add _) (lin_split m ss vs) ∙ simp tidy
 
   -- all of them
-  pub ruleset list-algebra = (lin-map_left, lin-map_right, lin_none, lin_mix_left, lin_mix_right, tidier)
+  pub ruleset list_algebra = (lin-map_left, lin-map_right, lin_none, lin_mix_left, lin_mix_right, tidier)
 
   pub sums_of_mixes : SumsOfMixes K S
   sums_of_mixes = record { left = lin_mix_left; right = lin_mix_right; parts = lin_split }

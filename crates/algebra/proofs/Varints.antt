@@ -337,8 +337,8 @@ module _ (rest : List ℕ) (i n scale at : ℕ) (s : Scanned rest i n scale) whe
     -- the last byte is zero, and not the only one
     pub scan_zero : b ≡ 0 → 0 < i → Err (NotCount at) ≡ read_count at rest
     unfolding read_count varint
-    scan_zero zero-byte more =
-        let refused : is_count (take i rest ++ (b ∷ [])) ≡ false = rw zero-byte (not_count (take i rest ++ (0 ∷ [])) (ends_in_zero (take i rest) (omega (arith, long s.within, more)))) in
+    scan_zero zero_byte more =
+        let refused : is_count (take i rest ++ (b ∷ [])) ≡ false = rw zero_byte (not_count (take i rest ++ (0 ∷ [])) (ends_in_zero (take i rest) (omega (arith, long s.within, more)))) in
         sym (ap (count_at at) (found (omega arith)) ∙ cond-false _ _ _ refused)
       where
         ends_in_zero : (xs : List ℕ) → 0 < length xs → varint_in 9 (count_of (xs ++ (0 ∷ []))) ≡ xs ++ (0 ∷ []) → ⊥

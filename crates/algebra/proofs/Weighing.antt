@@ -47,9 +47,9 @@ module _ {E V G : Type 0} (K : FieldOps E) (S : SpaceOps E V) (means : G → V) 
 
   module _ (i : ℕ) (w : E) (area : List G) (f : Weighing i w area) where
     pub weighing_more : IsField K → (a x : G) (next : E) → i < n → i < length area → a ≡ get_or values i a → means x ≡ S.scale w (means a) → next ≡ K.mul w y → Weighing (i + 1) next (set area i x)
-    weighing_more laws a x next h inside is-a is_x is_next =
+    weighing_more laws a x next h inside is_a is_x is_next =
         let one_less : n - i ≡ suc (n - (i + 1)) = omega arith in
-        let first : drop i (map means values) ≡ means a ∷ drop (i + 1) (map means values) = drop-map means i values ∙ ap (map means) (left_at values i a h is-a) ∙ ap (λ t. means a ∷ t) (sym (drop-map means (i + 1) values)) in
+        let first : drop i (map means values) ≡ means a ∷ drop (i + 1) (map means values) = drop-map means i values ∙ ap (map means) (left_at values i a h is_a) ∙ ap (λ t. means a ∷ t) (sym (drop-map means (i + 1) values)) in
         let left : multiples S (map (K.mul w) (powers K y (n - i))) (drop i (map means values)) ≡ means x ∷ multiples S (map (K.mul next) (powers K y (n - (i + 1)))) (drop (i + 1) (map means values)) =
         ap₂ (multiples S) (powers_more laws w y (n - i) (n - (i + 1)) one_less) first
         ∙ ap₂ (λ t u. t ∷ multiples S (map (K.mul u) (powers K y (n - (i + 1)))) (drop (i + 1) (map means values))) (sym is_x) (sym is_next) in

@@ -1,6 +1,7 @@
 -- Powers modulo q, and the numbers of which one power is 1. Assumes nothing.
-use Rattle.std.proofs.Common.{◌≡◌, ℕ, zero, suc, ◌+◌, ◌*◌, ◌/◌, ◌%◌, ◌^◌, sym, ap, ◌∙◌, mul_assoc, mul_comm, add-mul, pow-suc, mul-zero, mul-one, mul-suc, pow-add}
-use native.Mathlib.Nat.{pow-zero, mod-add-div, add-mul-mod_self_left}
+use Rattle.std.specs.Prelude.{◌≡◌, ℕ, zero, suc, ◌+◌, ◌*◌, ◌/◌, ◌%◌, ◌^◌}
+use Rattle.std.proofs.Common.{sym, ap, ◌∙◌, pow-suc, mul_assoc, mul_comm, mul-one, mul-suc, mul-zero, add-mul, pow-add}
+use Rattle.std.proofs.Math.Nat.{pow-zero, mod-add-div, add-mul-mod_self_left}
 
 -- A factor may be reduced first.
 pub mod-mul-mod : (n k m : ℕ) → (n % m * k) % m ≡ (n * k) % m

@@ -1,7 +1,7 @@
 // Counts as varints: seven bits a byte, lowest first, the top bit set on all but the last, in shortest form.
 ghost use Rattle.std.specs.Prelude.{◌≡◌, ◌≤◌, length, take, drop};
 ghost use Rattle.algebra.specs.Bytes.{Written};
-ghost use Rattle.algebra.specs.Varint.{varint as varint-of, read_count, AcceptsCounts};
+ghost use Rattle.algebra.specs.Varint.{varint as varint_of, read_count, AcceptsCounts};
 
 use crate::bytes;
 use crate::fault::ByteFault;
@@ -14,8 +14,8 @@ pub struct Varint {
 }
 
 pub fn encode(n: u64) -> Varint
-    ensures value { take result.len result.bytes ≡ varint-of n }
-    ensures len { result.len ≡ length (varint-of n) }
+    ensures value { take result.len result.bytes ≡ varint_of n }
+    ensures len { result.len ≡ length (varint_of n) }
     ensures few { result.len ≤ 10 }
 {
     let mut bytes = [0u8; 10];
@@ -35,7 +35,7 @@ pub fn encode(n: u64) -> Varint
 
 // How many bytes the count takes.
 pub fn size(n: u64) -> usize
-    ensures value { result ≡ length (varint-of n) }
+    ensures value { result ≡ length (varint_of n) }
     ensures few { result ≤ 10 }
 {
     encode(n).len
@@ -43,7 +43,7 @@ pub fn size(n: u64) -> usize
 
 // Writes the count to the front of the output, and answers its length.
 pub fn write(n: u64, out: &mut [u8]) -> Result<usize, ByteFault>
-    ensures { Written (varint-of n) out.old out.new result }
+    ensures { Written (varint_of n) out.old out.new result }
 {
     let code = encode(n);
     bytes::put(&code.bytes[0..code.len], out)

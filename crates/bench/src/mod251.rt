@@ -1,11 +1,11 @@
 // The integers modulo 251, in one byte.
 ghost use Rattle.std.specs.Prelude.{◌≡◌, ℕ, ◌%◌, ◌<◌, ◌≤◌, Some, None, refl};
-ghost use Rattle.algebra.specs.Modular.{residue, Residue};
-ghost use Rattle.bench.specs.Mod251.{Mod251 as Elem251, field251, codec251, below251, inverse251};
 ghost use Rattle.std.proofs.Common.{lit<, lit≤};
+ghost use Rattle.algebra.specs.Modular.{residue, Residue};
 ghost use Rattle.algebra.proofs.Residues.{modular_field, residue_numbers};
-ghost use Rattle.bench.specs.Mod251Laws.{inverts};
 ghost use Rattle.algebra.proofs.BigEndian.{numbers_encode};
+ghost use Rattle.bench.specs.Mod251.{Mod251 as Elem251, field251, codec251, below251, inverse251};
+ghost use Rattle.bench.specs.Mod251Laws.{inverts};
 
 use crate::mod251::inverses::INVERSES;
 use algebra::bytes;

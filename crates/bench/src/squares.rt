@@ -1,9 +1,9 @@
 // The squares modulo 503 as a space over the integers modulo 251: sums are products, and s times v is v^s.
 ghost use Rattle.std.specs.Prelude.{◌≡◌, ℕ, ◌%◌, ◌^◌, ◌<◌, true, false, Some, None};
+ghost use Rattle.std.proofs.Common.{lit≤};
+ghost use Rattle.algebra.proofs.BigEndian.{numbers_encode};
 ghost use Rattle.bench.specs.Squares.{Square as Elem503, square, squares as group503, power as powers, is_square, square_at, codec503};
 ghost use Rattle.bench.specs.SquareLaws.{squares_group, square_numbers};
-ghost use Rattle.algebra.proofs.BigEndian.{numbers_encode};
-ghost use Rattle.std.proofs.Common.{lit≤};
 
 use crate::mod251::Mod251;
 use algebra::bytes;

@@ -22,11 +22,11 @@ abbrev pub is_power_of_two : ℕ → Bool
 is_power_of_two n = power_below 64 n
 
 -- The tests of two vectors of these lengths against a setup of n pairs, in their order.
-abbrev pub claim_tests : (n len-a len-b : ℕ) → List (Bool × Fault)
-claim_tests n len-a len-b =
-    ((len-a == len-b), Lengths)
-    ∷ (is_power_of_two len-a, NotPowerOfTwo)
-    ∷ (nat_le len-a n, SmallSetup)
+abbrev pub claim_tests : (n len_a len_b : ℕ) → List (Bool × Fault)
+claim_tests n len_a len_b =
+    (len_a == len_b, Lengths)
+    ∷ (is_power_of_two len_a, NotPowerOfTwo)
+    ∷ (nat_le len_a n, SmallSetup)
     ∷ []
 
 module _ {E V : Type 0} (K : FieldOps E) (S : SpaceOps E V) where

@@ -64,10 +64,10 @@ module _ (x : ℕ) (large : 256 < x) (b : x < 65537) where
       omega (arith, divided, not))
 
   descends : q ^ 65536 % 65537 ≡ 1 → r ^ 65536 % 65537 ≡ 1 → x ^ 65536 % 65537 ≡ 1
-  descends of-q of-r =
-      ap (λ t. t % 65537) (sym (mul-one (x ^ 65536))) ∙ ap (λ t. x ^ 65536 * t % 65537) (sym of-q) ∙ mul-mod-mod (x ^ 65536) (q ^ 65536) 65537
+  descends of_q of_r =
+      ap (λ t. t % 65537) (sym (mul-one (x ^ 65536))) ∙ ap (λ t. x ^ 65536 * t % 65537) (sym of_q) ∙ mul-mod-mod (x ^ 65536) (q ^ 65536) 65537
       ∙ ap (λ t. t % 65537) (sym (mul-pow x q 65536)) ∙ by_square 65537 (x * q) 32768 ∙ ap (λ t. t ^ 32768 % 65537) (same_square 65537 (x * q) r whole)
-      ∙ sym (by_square 65537 r 32768) ∙ of-r
+      ∙ sym (by_square 65537 r 32768) ∙ of_r
 
 -- x^65536 is 1 for each x but zero.
 order : (n x : ℕ) → x < n → 0 < x → x < 65537 → x ^ 65536 % 65537 ≡ 1

@@ -86,17 +86,17 @@ module _ {E : Type 0} (c : Codec E) (bytes : List ℕ) (at n : ℕ) (is : n ≡ 
   pub refused_w : (d : ByteFault) → Err d ≡ read_one c at (drop at bytes) → Err (NotElement at) ≡ read_one (row_codec c) at (drop at bytes)
   refused_w d e = sym (read_parts ∙ rw (missing at d (omega arith) e) refl)
 
-  module _ (w : E) (is-w : Ok w ≡ read_one c at (drop at bytes)) where
+  module _ (w : E) (is_w : Ok w ≡ read_one c at (drop at bytes)) where
     pub refused_x : (d : ByteFault) → Err d ≡ read_one c (at + n) (drop (at + n) bytes) → Err (NotElement at) ≡ read_one (row_codec c) at (drop at bytes)
-    refused_x d e = sym (read_parts ∙ rw (found at w (omega arith) is-w, missing (at + n) d (omega arith) e) refl)
+    refused_x d e = sym (read_parts ∙ rw (found at w (omega arith) is_w, missing (at + n) d (omega arith) e) refl)
 
     module _ (x : E) (is_x : Ok x ≡ read_one c (at + n) (drop (at + n) bytes)) where
       pub refused_y : (d : ByteFault) → Err d ≡ read_one c (at + n + n) (drop (at + n + n) bytes) → Err (NotElement at) ≡ read_one (row_codec c) at (drop at bytes)
-      refused_y d e = sym (read_parts ∙ rw (found at w (omega arith) is-w, found (at + n) x (omega arith) is_x, missing (at + n + n) d (omega arith) e) refl)
+      refused_y d e = sym (read_parts ∙ rw (found at w (omega arith) is_w, found (at + n) x (omega arith) is_x, missing (at + n + n) d (omega arith) e) refl)
 
       module _ (y : E) (is_y : Ok y ≡ read_one c (at + n + n) (drop (at + n + n) bytes)) where
         pub refused_z : (d : ByteFault) → Err d ≡ read_one c (at + n + n + n) (drop (at + n + n + n) bytes) → Err (NotElement at) ≡ read_one (row_codec c) at (drop at bytes)
-        refused_z d e = sym (read_parts ∙ rw (found at w (omega arith) is-w, found (at + n) x (omega arith) is_x, found (at + n + n) y (omega arith) is_y, missing (at + n + n + n) d (omega arith) e) refl)
+        refused_z d e = sym (read_parts ∙ rw (found at w (omega arith) is_w, found (at + n) x (omega arith) is_x, found (at + n + n) y (omega arith) is_y, missing (at + n + n + n) d (omega arith) e) refl)
 
         pub read_row : (z : E) → Ok z ≡ read_one c (at + n + n + n) (drop (at + n + n + n) bytes) → Ok (row_of w x y z) ≡ read_one (row_codec c) at (drop at bytes)
-        read_row z e = sym (read_parts ∙ rw (found at w (omega arith) is-w, found (at + n) x (omega arith) is_x, found (at + n + n) y (omega arith) is_y, found (at + n + n + n) z (omega arith) e) refl)
+        read_row z e = sym (read_parts ∙ rw (found at w (omega arith) is_w, found (at + n) x (omega arith) is_x, found (at + n + n) y (omega arith) is_y, found (at + n + n + n) z (omega arith) e) refl)

@@ -1,10 +1,10 @@
 // The field of 256 elements of FIPS 197, in one byte.
 ghost use Rattle.std.specs.Prelude.{◌≡◌, ◌%◌, refl};
-ghost use Rattle.plant.specs.ByteField.{Byte as Element, byte, byte_field, byte_codec, times};
-ghost use Rattle.plant.specs.ByteLaws.{byte_of, byte_laws};
 ghost use Rattle.std.proofs.Common.{lit≤};
 ghost use Rattle.algebra.proofs.BigEndian.{numbers_encode};
 ghost use Rattle.algebra.proofs.Residues.{residue_numbers};
+ghost use Rattle.plant.specs.ByteField.{Byte as Element, byte, byte_field, byte_codec, times};
+ghost use Rattle.plant.specs.ByteLaws.{byte_of, byte_laws};
 
 use algebra::bytes;
 use algebra::fault::ByteFault;

@@ -1,11 +1,11 @@
 // The integers modulo 65,537, in four bytes.
 ghost use Rattle.std.specs.Prelude.{◌≡◌, ◌%◌, ◌^◌, ◌<◌, ◌≤◌, Some, None, refl};
-ghost use Rattle.algebra.specs.Modular.{residue, Residue};
-ghost use Rattle.plant.specs.Mod65537.{Mod65537 as Elem65537, field65537, codec65537, below65537, inverse65537};
 ghost use Rattle.std.proofs.Common.{lit<, lit≤};
+ghost use Rattle.algebra.specs.Modular.{residue, Residue};
 ghost use Rattle.algebra.proofs.Residues.{modular_field, residue_numbers};
-ghost use Rattle.plant.specs.Orders.{inverts};
 ghost use Rattle.algebra.proofs.BigEndian.{numbers_encode};
+ghost use Rattle.plant.specs.Mod65537.{Mod65537 as Elem65537, field65537, codec65537, below65537, inverse65537};
+ghost use Rattle.plant.specs.Orders.{inverts};
 
 use algebra::bytes;
 use algebra::fault::ByteFault;

@@ -1,7 +1,7 @@
 // Rows of four numbers over any field, by place, written in order.
+ghost use Rattle.std.proofs.Common.{rules};
 ghost use Rattle.plant.specs.Rows.{RowOf, row_meant, rows, scale_row, row_codec};
 ghost use Rattle.plant.specs.RowBytes.{row_encodes};
-ghost use Rattle.std.proofs.Common.{rules};
 
 use algebra::fault::ByteFault;
 use algebra::field::Field;
