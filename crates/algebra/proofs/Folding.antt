@@ -1,6 +1,6 @@
 -- The loop that folds a slice in place, turn by turn. Assumes nothing.
-use Rattle.std.proofs.Common.{◌≡◌, ℕ, ◌+◌, ◌-◌, ◌<◌, ◌≤◌, min, List, [], ◌∷◌, ◌++◌, map, length, get_or, take, drop, set, sym, refl, ap, ◌∙◌, ap₂, inl, inr, append_assoc, append-nil, arith, length-drop, length-set, length-take}
-use Rattle.std.proofs.lemmas.List.{map-append, map_push, length-map, get_or-map, get_or-take, get_or-drop, take_more_set, drop-set-lt, drop_all, drop-drop, take-append-drop, drop-map}
+use Rattle.std.proofs.Common.{◌≡◌, ℕ, ◌+◌, ◌-◌, ◌<◌, ◌≤◌, min, List, [], ◌∷◌, ◌++◌, map, length, get_or, take, drop, set, sym, refl, ap, ◌∙◌, ap₂, inl, inr, append_assoc, append-nil, arith, subst, length-append, length-drop, length-set, length-take}
+use Rattle.std.proofs.lemmas.List.{map-append, map_push, length-map, get_or-map, get_or-take, get_or-drop, take_more_set, drop-set-lt, drop_all, drop-drop, take-append-drop, drop-map, set-append_left, get_or_append_left, get_or-append_right}
 use Rattle.std.proofs.lemmas.Bool.{cases_lt}
 use Rattle.algebra.specs.Structures.{SpaceOps}
 use Rattle.algebra.specs.Folds.{mix, folded}
@@ -44,9 +44,6 @@ module _ {E V : Type 0} (S : SpaceOps E V) (u v : E) where
       pub done : map means (take i area) ++ mix S u (drop i lo) v (drop i hi) ≡ mix S u lo v hi
       pub rest : drop i area ≡ drop i before
       pub long : length area ≡ length before
-
-    pub folding_none : Folding 0 before
-    folding_none = record { done = refl; rest = refl; long = refl }
 
     module _ (i : ℕ) (area : List G) (f : Folding i area) where
       module _ (a : G) (is_a : a ≡ get_or area i a) (below : i < mid) (inside : i < length area) where
@@ -102,3 +99,31 @@ module _ {E V : Type 0} (S : SpaceOps E V) (u v : E) where
         where
           min_below : (n : ℕ) → i ≤ min mid n → i ≤ mid
           min_below n le = omega arith
+
+    -- One entry more, of an area in two parts of which the first has what is folded.
+    module _ (low high : List G) (i : ℕ) (f : Folding i (low ++ high)) (a : G) (is_a : a ≡ get_or low i a) (inside : i < length low) (cut : length low ≡ min mid (length before)) where
+      whole : length low + length high ≡ length before
+      whole = sym (length-append low high) ∙ f.long
+
+      at_i : a ≡ get_or (low ++ high) i a
+      at_i = is_a ∙ sym (get_or_append_left low high a i inside)
+
+      in_whole : i < length (low ++ high)
+      in_whole = omega (arith, length-append low high)
+
+      pub pair_in_parts : (b x : G) → i < length high → b ≡ get_or high i b → means x ≡ S.add (S.scale u (means a)) (S.scale v (means b)) → Folding (i + 1) (set low i x ++ high)
+      pair_in_parts b x partner is_b is_x =
+          let long : length low ≡ mid = omega (arith, whole, cut) in
+          let behind : mid + i - mid ≡ i = omega arith in
+          let at_b : b ≡ get_or (low ++ high) (mid + i) b = is_b ∙ sym (get_or-append_right low high mid (mid + i) b long (omega arith) ∙ ap (λ t. get_or high t b) behind) in
+          subst (Folding (i + 1)) (set-append_left low high i x inside)
+          (folding_pair i (low ++ high) f a at_i (omega (arith, long, inside)) in_whole b x (omega (arith, length-append low high, long, partner)) at_b is_x)
+
+      pub alone_in_parts : (x : G) → length high ≤ i → means x ≡ S.scale u (means a) → Folding (i + 1) (set low i x ++ high)
+      alone_in_parts x none_above is_x =
+          subst (Folding (i + 1)) (set-append_left low high i x inside)
+          (folding_alone i (low ++ high) f a at_i (omega (arith, cut, inside)) in_whole x (omega (arith, length-append low high, cut, none_above)) is_x)
+
+    pub parts_done : (low high : List G) (i : ℕ) → Folding i (low ++ high) → length low ≡ min mid (length before) → length low ≤ i → i ≤ length low
+        → (map means (low ++ high) ≡ folded S u v mid all) × (drop mid (low ++ high) ≡ drop mid before)
+    parts_done low high i f cut h k = folding_done i (low ++ high) f (omega (arith, cut, h, f.long)) (omega (arith, cut, k, f.long))

@@ -5,6 +5,7 @@ pub mod Spaces
 pub mod Summing
 pub mod Folding
 pub mod Weighing
+pub mod Taking
 pub mod Reading
 pub mod Writing
 pub mod Varints

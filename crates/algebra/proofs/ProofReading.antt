@@ -1,6 +1,5 @@
 -- Reading a proof accepts the encodings of proofs that are permitted and have room, and nothing else. Assumes nothing.
-use Rattle.std.proofs.Common.{◌≡◌, ℕ, ◌+◌, ◌*◌, ◌^◌, ◌<◌, ◌≤◌, Bool, true, false, cond, ◌||◌, eqb, leb, List, ◌++◌, map, length, take, drop, Ok, Err, Result, sym, refl, ap, ◌∙◌, subst, ap₂, inl, inr, add_assoc, arith, length-append, length-drop, length-take, drop-drop, pow_mono}
-use mathlib.Core.Option.{none}
+use Rattle.std.proofs.Common.{◌≡◌, ℕ, ◌+◌, ◌*◌, ◌^◌, ◌<◌, ◌≤◌, Bool, true, false, cond, ◌||◌, eqb, leb, List, ◌++◌, map, length, take, drop, Ok, Err, Result, sym, refl, ap, ◌∙◌, subst, ap₂, inl, inr, add_assoc, arith, length-append, length-take, drop-drop, pow_mono, None}
 use Rattle.std.proofs.lemmas.List.{length-take-le, take-map, length-map}
 use Rattle.std.proofs.lemmas.Bool.{leb-true, le-leb, lt-leb, eqb-true, cond-true, cases_lt}
 use Rattle.algebra.specs.declared.fault.ByteFault.{ByteFault}
@@ -22,13 +21,10 @@ use Rattle.algebra.proofs.Steps.{go_on_ok, provided_ok, unless_ok, same_both}
 -- Bytes that were read are those, and lie within.
 bytes_read : (k at : ℕ) (bytes s : List ℕ) (b : Bool) → leb k (length bytes) ≡ b → cond b (Ok (take k bytes)) (Err (Ends at)) ≡ Ok s → (k ≤ length bytes) × (take k bytes ≡ s)
 bytes_read k at bytes s true is e = (leb-true k (length bytes) is, cc)
-bytes_read k at bytes s false is e = absurd (let z : ◌≡◌ {A = ℕ} 0 1 = cc in omega arith)
+bytes_read k at bytes s false is e = cc
 
 pub bytes_only : (k at : ℕ) (bytes s : List ℕ) → read_bytes k at bytes ≡ Ok s → (k ≤ length bytes) × (take k bytes ≡ s)
 bytes_only k at bytes s e = bytes_read k at bytes s (leb k (length bytes)) refl e
-
-pub bytes_within : (k at : ℕ) (bytes s : List ℕ) → 1 ≤ k → read_bytes k at (drop at bytes) ≡ Ok s → at + k ≤ length bytes
-bytes_within k at bytes s some_bytes e = let h = (bytes_only k at (drop at bytes) s e).0 in let d = length-drop at bytes in omega (arith, h, d)
 
 -- What follows the rounds, by the field that is refused, or where none is.
 module _ {E : Type 0} (n : Codec E) (rounds at a_at b_at : ℕ) (bytes : List ℕ) where
@@ -124,7 +120,7 @@ was_ok : {F E : Type 0} (f : F → E) (r : Result (Proof F × ℕ) ByteFault) (f
 was_ok f (Ok q) fin used e =
     let same = same_both (finals_of f q.0) fin q.1 used e in
     (q.0, ap (λ t. Ok (q.0, t)) same.1, same.0)
-was_ok f (Err d) fin used e = absurd (let z : ◌≡◌ {A = ℕ} 0 1 = cc in omega arith)
+was_ok f (Err d) fin used e = cc
 
 same_proof : {E V : Type 0} (p o : ProofOf E V) → p.pairs ≡ o.pairs → p.summary ≡ o.summary → p.a_final ≡ o.a_final → p.b_final ≡ o.b_final → p ≡ o
 same_proof {E} {V} p o is_pairs is_summary is_a is_b =
@@ -213,7 +209,7 @@ module _ {E V : Type 0} (n : Codec E) (e : Codec V) {F G : Type 0} (f : F → E)
         let m = split_codes (2 * k * e.size) (32 + n.size + n.size) (drop at bytes) _ _ wide p.1 in
         let count : read_count 0 bytes ≡ Ok (k, at) = (accepts_counts 0 bytes _ refl).each k (below_count k (few_rounds highest k small a.permitted)) p.0 in
         let fit : leb (2 * k) (length before) ≡ true = le-leb (2 * k) (length before) a.room_for in
-        let run : read_run e (2 * k) at bytes ≡ record { accepted = in_turn o.pairs; refused = none } =
+        let run : read_run e (2 * k) at bytes ≡ record { accepted = in_turn o.pairs; refused = None } =
         ap (λ t. read_run e t at bytes) (sym turns) ∙ run_each e elements (in_turn o.pairs) at bytes (ap (λ t. take (t * e.size) (drop at bytes)) turns ∙ m.0) in
         let whole : read_proof n e highest (length before) bytes ≡ read_rounds n e k at bytes = rw (count, a.permitted, fit) refl in
         let fin = finals_each n numbers k (at + 2 * k * e.size) bytes o.summary o.a_final o.b_final a.summary_long (ap (take (32 + n.size + n.size)) (sym (drop-drop (2 * k * e.size) at bytes)) ∙ m.1) in

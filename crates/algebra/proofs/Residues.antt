@@ -1,8 +1,7 @@
 -- The laws of the numbers below p: a field wherever the inverse is one, written by number. Assumes nothing.
-use Rattle.std.proofs.Common.{◌≡◌, ℕ, ◌+◌, ◌-◌, ◌*◌, ◌%◌, ◌^◌, ◌<◌, ◌≤◌, ltb, sym, refl, ap, ◌∙◌, subst, add-zero, add_assoc, mod-eq_of_lt, mul_assoc, mul_comm, add_comm, pos_of_ne-zero, mul-one, mul-add, arith}
-use mathlib.Core.Option.{some, none}
-use native.Mathlib.Bridge.{le_prop}
-use native.Mathlib.Nat.{mod_self, mod-add-mod, add-mod-mod, add-mod}
+use Rattle.std.proofs.Common.{◌≡◌, ℕ, ◌+◌, ◌-◌, ◌*◌, ◌%◌, ◌^◌, ◌<◌, ◌≤◌, ltb, sym, refl, ap, ◌∙◌, subst, add-zero, add_assoc, mod-eq_of_lt, mul_assoc, mul_comm, add_comm, pos_of_ne-zero, mul-one, mul-add, arith, Some, None}
+use Rattle.std.proofs.Math.Bridge.{le_prop}
+use Rattle.std.proofs.Math.Nat.{mod_self, mod-add-mod, add-mod-mod, add-mod}
 use Rattle.std.proofs.lemmas.Bool.{lt-ltb, le-ltb}
 use Rattle.algebra.specs.Structures.{IsField}
 use Rattle.algebra.specs.Powers.{mod-mul-mod, mul-mod-mod}
@@ -37,10 +36,10 @@ modular_field {p} h inverse inverts zero = record {
   one-zero = λ e. let z : ◌≡◌ {A = ℕ} 1 0 = ap (λ r. r.value) e in omega arith;
 }
 
-pub found : {p : ℕ} (x : Residue p) → below_p p x.value ≡ some x
+pub found : {p : ℕ} (x : Residue p) → below_p p x.value ≡ Some x
 found {p} x = if_passes (ltb x.value p) _ x (λ e. by_value _ _ refl) (lt-ltb x.value p x.below)
 
-pub not_found : (p n : ℕ) → p ≤ n → below_p p n ≡ none
+pub not_found : (p n : ℕ) → p ≤ n → below_p p n ≡ None
 not_found p n h = if_fails (ltb n p) _ (le-ltb n p h)
 
 pub residue_numbers : {p : ℕ} (w : ℕ) → p ≤ 256 ^ w → Numbers {X = Residue p} w (λ x. x.value) (below_p p)

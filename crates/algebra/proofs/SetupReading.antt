@@ -1,7 +1,6 @@
 -- Reading a setup accepts the encodings of setups that are permitted and have room, and nothing else. Assumes nothing.
-use Rattle.std.proofs.Common.{◌≡◌, ℕ, ◌+◌, ◌*◌, ◌%◌, ◌<◌, ◌≤◌, true, leb, List, ◌∷◌, ◌++◌, map, length, take, drop, Ok, Err, Result, sym, refl, ap, ◌∙◌, subst, inl, inr, le_trans, add_assoc, arith, length-append, drop-drop}
-use mathlib.Core.Option.{none}
-use native.Mathlib.Nat.{min-le_right}
+use Rattle.std.proofs.Common.{◌≡◌, ℕ, ◌+◌, ◌*◌, ◌%◌, ◌<◌, ◌≤◌, true, leb, List, ◌∷◌, ◌++◌, map, length, take, drop, Ok, Err, Result, sym, refl, ap, ◌∙◌, subst, inl, inr, le_trans, add_assoc, arith, length-append, drop-drop, None}
+use Rattle.std.proofs.Math.Nat.{min-le_right}
 use Rattle.std.proofs.lemmas.Bool.{le-leb, lt-leb, leb-true, cases_lt}
 use Rattle.std.proofs.lemmas.List.{take-map, length-map}
 use Rattle.algebra.specs.declared.fault.ByteFault.{ByteFault}
@@ -92,7 +91,7 @@ module _ {G V : Type 0} (c : Codec V) (laws : IsCodec c) (means : G → V) (high
       let fit : leb (2 * n + 1) (length before) ≡ true = le-leb (2 * n + 1) (length before) a.room_for in
       let code : take (length (in_turn s.pairs) * c.size) (drop at bytes) ≡ encode_run c (in_turn s.pairs) =
       ap (λ t. take (t * c.size) (drop at bytes)) turns ∙ ap (take (2 * n * c.size)) (sym (drop-drop wide c.size bytes)) ∙ m.1 in
-      let run : read_run c (2 * n) at bytes ≡ record { accepted = in_turn s.pairs; refused = none } = ap (λ t. read_run c t at bytes) (sym turns) ∙ run_each c laws (in_turn s.pairs) at bytes code in
+      let run : read_run c (2 * n) at bytes ≡ record { accepted = in_turn s.pairs; refused = None } = ap (λ t. read_run c t at bytes) (sym turns) ∙ run_each c laws (in_turn s.pairs) at bytes code in
       let whole : read_setup c highest (length before) bytes ≡ read_pairs c s.q n at bytes = rw (q, count, few, fit) refl in
       let ended : (read_pairs c s.q n at bytes).answer ≡ Ok (n, at + 2 * n * c.size) = ap (λ (r : Run c). unless r.refused (Ok (n, at + 2 * n * c.size))) run in
       let parts : Placed means ((2 * n, s.q) ∷ with_places (Halves n) 0 (read_run c (2 * n) at bytes).accepted) before after = subst (λ (r : Reading (ℕ × ℕ) V). Placed means r.placed before after) whole placed in (

@@ -1,21 +1,13 @@
 -- What the laws give of sums of multiples, with the rules that sort such sums in one set. Assumes nothing.
-use Rattle.std.proofs.Common.{◌≡◌, ℕ, zero, suc, List, [], ◌∷◌, map, take, drop, sym, refl, ap, ◌∙◌, ap₂}
-use Rattle.algebra.specs.Structures.{FieldOps, IsField, GroupOps, IsGroup, SpaceOps, with_multiples, OverSum, OverAdd, OverMul, ByOne, IsSpace, over_itself}
+use Rattle.std.proofs.Common.{◌≡◌, ℕ, zero, suc, List, [], ◌∷◌, map, take, drop, sym, refl, ap, ◌∙◌}
+use Rattle.std.proofs.Math.Path.{fun_ext}
+use Rattle.algebra.specs.Structures.{FieldOps, IsField, GroupOps, IsGroup, SpaceOps, with_multiples, OverSum, OverAdd, OverMul, ByOne, IsSpace, additive, over_itself}
 use Rattle.algebra.specs.Sums.{lin}
 use Rattle.algebra.specs.Folds.{mix, SumsOfMixes}
 
--- A field is a space over itself.
-pub itself_space : {E : Type 0} {K : FieldOps E} → IsField K → IsSpace K (over_itself K)
-itself_space {K = K} l = record {
-  add_assoc = l.add_assoc;
-  add_comm = l.add_comm;
-  add-zero = l.add-zero;
-  add-neg = l.add-neg;
-  over_sum = l.mul-add;
-  over_add = λ s t x. l.mul_comm _ _ ∙ l.mul-add x s t ∙ ap₂ K.add (l.mul_comm x s) (l.mul_comm x t);
-  over_mul = l.mul_assoc;
-  by_one = λ x. l.mul_comm _ _ ∙ l.mul-one x;
-}
+-- As a space, a field is multiplied by what a value means that was picked for an element: by that element.
+pub picked_multiples : {F E : Type 0} (K : FieldOps E) (means : F → E) (pick : E → F) → ((x : E) → means (pick x) ≡ x) → with_multiples (additive K) (λ s. K.mul (means (pick s))) ≡ over_itself K
+picked_multiples K means pick picked = ap (with_multiples (additive K)) (fun_ext (λ s. ap K.mul (picked s)))
 
 -- The laws of a space in one record.
 pub gathered : {E V : Type 0} (K : FieldOps E) {g : GroupOps V} (scale : E → V → V) → IsGroup g → OverSum K (with_multiples g scale) → OverAdd K (with_multiples g scale) → OverMul K (with_multiples g scale)

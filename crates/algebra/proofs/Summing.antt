@@ -1,16 +1,12 @@
 -- The turns of loops that sum over slices. Assumes nothing.
 use Rattle.std.proofs.Common.{◌≡◌, ℕ, suc, ◌+◌, ◌<◌, List, [], ◌∷◌, map, length, get_or, drop, sym, refl, ap, ◌∙◌, ap₂}
 use Rattle.std.proofs.lemmas.List.{drop_more}
-use Rattle.algebra.specs.Structures.{FieldOps, IsField, GroupOps, IsGroup, with_multiples, additive}
+use Rattle.algebra.specs.Structures.{FieldOps, IsField, GroupOps, IsGroup, with_multiples}
 use Rattle.algebra.specs.Sums.{lin, powers}
 
 -- what is left of a slice, at a place where x was read
 pub left_at : {X : Type 0} (xs : List X) (i : ℕ) (x : X) → i < length xs → x ≡ get_or xs i x → drop i xs ≡ x ∷ drop (i + 1) xs
 left_at xs i x h e = drop_more xs i x h ∙ ap (λ y. y ∷ drop (i + 1) xs) (sym e)
-
--- the sums of a field are a group
-pub additive_group : {E : Type 0} {K : FieldOps E} → IsField K → IsGroup (additive K)
-additive_group l = record { add_assoc = l.add_assoc; add_comm = l.add_comm; add-zero = l.add-zero; add-neg = l.add-neg }
 
 module _ {E V : Type 0} {g : GroupOps V} (laws : IsGroup g) (scale : E → V → V) where
   pub lin_start : (v : V) → g.add g.zero v ≡ v

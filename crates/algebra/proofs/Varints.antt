@@ -1,9 +1,8 @@
 -- Varints: their bytes step by step, and what reading accepts. Assumes nothing.
-use Rattle.std.proofs.Common.{◌≡◌, ℕ, zero, suc, ◌+◌, ◌-◌, ◌*◌, ◌/◌, ◌%◌, ◌^◌, ◌<◌, ◌≤◌, Bool, true, false, cond, ◌&&◌, ltb, List, [], ◌∷◌, ◌++◌, length, get_or, take, drop, set, Ok, Err, Result, sym, refl, ap, ◌∙◌, ap₂, inl, inr, append_assoc, mul-le-mul_right, mul_assoc, pow-suc, mul-one, add-one, arith, lit<, lit≤, length-append}
-use mathlib.Core.Option.{Option, none, some}
-use native.Mathlib.Nat.{pow-zero, pow-le-pow_right}
+use Rattle.std.proofs.Common.{◌≡◌, ℕ, zero, suc, ◌+◌, ◌-◌, ◌*◌, ◌/◌, ◌%◌, ◌^◌, ◌<◌, ◌≤◌, Bool, true, false, cond, ◌&&◌, ltb, List, [], ◌∷◌, ◌++◌, length, get_or, take, drop, Ok, Err, Result, sym, refl, ap, ◌∙◌, ap₂, inl, inr, append_assoc, mul_assoc, pow-suc, mul-one, add-one, arith, lit<, lit≤, length-append, Option, None, Some}
+use Rattle.std.proofs.Math.Nat.{pow-zero, pow-le-pow_right}
 use Rattle.std.proofs.lemmas.Bool.{le-ltb, lt-ltb, ltb-true, cases_lt, cond-true, cond-false, and_from, and_parts}
-use Rattle.std.proofs.lemmas.List.{take_more, take_more_set, drop_all, drop_more, length-take-le, length_push, append-nil}
+use Rattle.std.proofs.lemmas.List.{take_more, drop_all, drop_more, length-take-le, length_push, append-nil}
 use Rattle.algebra.specs.declared.fault.ByteFault.{ByteFault}
 use Rattle.algebra.specs.declared.fault.ByteFault.TheVariants.{Ends, NotCount}
 use Rattle.algebra.specs.Numbered.{same_bytes}
@@ -41,34 +40,18 @@ unfolding varint_in
 varint_last zero n l = refl
 varint_last (suc m) n l = let e : ltb n 128 ≡ true = lt-ltb n 128 l in rw e
 
-varint_one : (n : ℕ) → varint_in zero n ≡ n ∷ []
-unfolding varint_in
-varint_one n = refl
+-- One byte more of the encoder's loop, and its last, where `done` was written.
+pub encode_more : (done : List ℕ) (n m : ℕ) → length done < 9 → 128 ≤ n → done ++ varint_in (9 - length done) n ≡ varint_in 9 m
+    → (done ++ ((n % 128 + 128) ∷ [])) ++ varint_in (9 - (length done + 1)) (n / 128) ≡ varint_in 9 m
+encode_more done n m short big e =
+    let p : 9 - (length done + 1) ≡ 9 - length done - 1 = omega arith in
+    append_assoc done ((n % 128 + 128) ∷ []) (varint_in (9 - (length done + 1)) (n / 128))
+    ∙ ap (λ f. done ++ ((n % 128 + 128) ∷ varint_in f (n / 128))) p
+    ∙ ap (λ l. done ++ l) (sym (varint_more (9 - length done) n (omega arith) big)) ∙ e
 
-few_in : (more n : ℕ) → length (varint_in more n) ≤ more + 1
-few_in zero n = rw (varint_one n) (omega arith)
-few_in (suc m) n = elim (cases_lt n 128) [
-  | inl small ↦ rw (varint_last (suc m) n small) (omega arith)
-  | inr large ↦ let less : suc m - 1 ≡ m = omega arith in let ih = few_in m (n / 128) in rw (varint_more (suc m) n (omega arith) large, less) (omega (arith, ih))
-]
-
-pub varint_few : (n : ℕ) → length (varint n) ≤ 10
+pub encode_last : (done : List ℕ) (n m : ℕ) → n < 128 → done ++ varint_in (9 - length done) n ≡ varint_in 9 m → done ++ (n ∷ []) ≡ varint m
 unfolding varint
-varint_few n = few_in 9 n
-
--- One byte more of the encoder's loop, and its last.
-pub encode_more : (xs : List ℕ) (i n m : ℕ) → i < length xs → i < 9 → 128 ≤ n → take i xs ++ varint_in (9 - i) n ≡ varint_in 9 m
-    → take (i + 1) (set xs i (n % 128 + 128)) ++ varint_in (9 - (i + 1)) (n / 128) ≡ varint_in 9 m
-encode_more xs i n m h short big e =
-    let p : 9 - (i + 1) ≡ 9 - i - 1 = omega arith in
-    ap (λ l. l ++ varint_in (9 - (i + 1)) (n / 128)) (take_more_set xs i (n % 128 + 128) h)
-    ∙ append_assoc (take i xs) ((n % 128 + 128) ∷ []) (varint_in (9 - (i + 1)) (n / 128))
-    ∙ ap (λ f. take i xs ++ ((n % 128 + 128) ∷ varint_in f (n / 128))) p
-    ∙ ap (λ l. take i xs ++ l) (sym (varint_more (9 - i) n (omega arith) big)) ∙ e
-
-pub encode_last : (xs : List ℕ) (i n m : ℕ) → i < length xs → n < 128 → take i xs ++ varint_in (9 - i) n ≡ varint_in 9 m → take (i + 1) (set xs i n) ≡ varint m
-unfolding varint
-encode_last xs i n m h small e = take_more_set xs i n h ∙ ap (λ l. take i xs ++ l) (sym (varint_last (9 - i) n small)) ∙ e
+encode_last done n m small e = ap (λ l. done ++ l) (sym (varint_last (9 - length done) n small)) ∙ e
 
 -- All have the top bit.
 abbrev pub Tops : List ℕ → Type 0
@@ -148,15 +131,15 @@ not_tops (suc more) n (x ∷ xs) h t e = elim (cases_lt n 128) [
 ]
 
 -- A field that was found begins the bytes.
-front_more : (b : ℕ) (bytes f : List ℕ) (top : Bool) (rest : Option (List ℕ)) → ((g : List ℕ) → rest ≡ some g → take (length g) bytes ≡ g)
-    → cond top (some (b ∷ [])) (prefixed (b ∷ []) rest) ≡ some f → take (length f) (b ∷ bytes) ≡ f
+front_more : (b : ℕ) (bytes f : List ℕ) (top : Bool) (rest : Option (List ℕ)) → ((g : List ℕ) → rest ≡ Some g → take (length g) bytes ≡ g)
+    → cond top (Some (b ∷ [])) (prefixed (b ∷ []) rest) ≡ Some f → take (length f) (b ∷ bytes) ≡ f
 front_more b bytes f true rest ih e = let same : b ∷ [] ≡ f = cc in rw (← same) refl
-front_more b bytes f false none ih e = absurd (let z : ◌≡◌ {A = ℕ} 0 1 = cc in omega arith)
-front_more b bytes f false (some g) ih e = let same : b ∷ g ≡ f = cc in rw (← same) (ap (λ t. b ∷ t) (ih g refl))
+front_more b bytes f false None ih e = cc
+front_more b bytes f false (Some g) ih e = let same : b ∷ g ≡ f = cc in rw (← same) (ap (λ t. b ∷ t) (ih g refl))
 
-field_front : (most : ℕ) (bytes f : List ℕ) → count_field most bytes ≡ some f → take (length f) bytes ≡ f
+field_front : (most : ℕ) (bytes f : List ℕ) → count_field most bytes ≡ Some f → take (length f) bytes ≡ f
 field_front zero bytes f e = let same : [] ≡ f = cc in rw (← same) refl
-field_front (suc most) [] f e = absurd (let z : ◌≡◌ {A = ℕ} 0 1 = cc in omega arith)
+field_front (suc most) [] f e = cc
 field_front (suc most) (b ∷ bytes) f e = front_more b bytes f (ltb b 128) (count_field most bytes) (field_front most bytes) e
 
 first_is : (x : ℕ) (xs bytes : List ℕ) → take (length (x ∷ xs)) bytes ≡ x ∷ xs → (bytes ≡ x ∷ drop 1 bytes) × (take (length xs) (drop 1 bytes) ≡ xs)
@@ -164,13 +147,13 @@ first_is x xs [] e = absurd (let l = ap length e in omega (arith, l))
 first_is x xs (b ∷ bytes) e = let same : b ≡ x = ap (λ l. get_or l 0 0) e in (ap (λ t. t ∷ bytes) same, same_tail b x _ _ e)
 
 -- A varint that begins the bytes is found, and writes its number.
-found_last : (most more n : ℕ) (bytes : List ℕ) → n < 128 → take (length (varint_in more n)) bytes ≡ varint_in more n → count_field (suc most) bytes ≡ some (varint_in more n)
+found_last : (most more n : ℕ) (bytes : List ℕ) → n < 128 → take (length (varint_in more n)) bytes ≡ varint_in more n → count_field (suc most) bytes ≡ Some (varint_in more n)
 found_last most more n bytes small e =
     let last = varint_last more n small in
     let first = first_is n [] bytes (rw last at e) in
     rw (first.0, last, lt-ltb n 128 small) refl
 
-varint_found : (most more n : ℕ) (bytes : List ℕ) → most ≤ more → n < 128 ^ suc most → take (length (varint_in more n)) bytes ≡ varint_in more n → count_field (suc most) bytes ≡ some (varint_in more n)
+varint_found : (most more n : ℕ) (bytes : List ℕ) → most ≤ more → n < 128 ^ suc most → take (length (varint_in more n)) bytes ≡ varint_in more n → count_field (suc most) bytes ≡ Some (varint_in more n)
 varint_found zero more n bytes few h e = let one : 128 ^ suc zero ≡ 128 = refl in found_last zero more n bytes (omega (arith, one, h)) e
 varint_found (suc most) zero n bytes few h e = absurd (omega arith)
 varint_found (suc most) (suc more) n bytes few h e = elim (cases_lt n 128) [
@@ -203,7 +186,7 @@ same_counts n m k l e =
 
 accepted : (at n k : ℕ) (f : List ℕ) (b : Bool) → is_count f ≡ b → cond {A = Result (ℕ × ℕ) ByteFault} b (Ok (count_of f, length f)) (Err (NotCount at)) ≡ Ok (n, k)
     → (n < 4294967296) × (k ≡ length (varint n)) × (f ≡ varint n)
-accepted at n k f false is e = absurd (let z : ◌≡◌ {A = ℕ} 0 1 = cc in omega arith)
+accepted at n k f false is e = cc
 accepted at n k f true is e =
     let both = and_parts (same_bytes (varint (count_of f)) f) (ltb (count_of f) 4294967296) is in
     let same = same_counts (count_of f) n (length f) k e in
@@ -213,8 +196,8 @@ accepted at n k f true is e =
 
 count_only : (at n k : ℕ) (bytes : List ℕ) (o : Option (List ℕ)) → count_field 5 bytes ≡ o → count_at at o ≡ Ok (n, k)
     → (n < 4294967296) × (k ≡ length (varint n)) × (take k bytes ≡ varint n)
-count_only at n k bytes none is e = absurd (let z : ◌≡◌ {A = ℕ} 0 1 = cc in omega arith)
-count_only at n k bytes (some f) is e =
+count_only at n k bytes None is e = cc
+count_only at n k bytes (Some f) is e =
     let a = accepted at n k f (is_count f) refl e in
     (a.0, a.1, ap (λ t. take t bytes) (a.1 ∙ ap length (sym a.2)) ∙ field_front 5 bytes f is ∙ a.2)
 
@@ -245,16 +228,9 @@ pub record Scanned (rest : List ℕ) (i n scale : ℕ) : Type 0 where
   pub power : scale ≡ 128 ^ i
   pub field : count_field 5 rest ≡ prefixed (take i rest) (count_field (5 - i) (drop i rest))
 
-prefixed_nil : (o : Option (List ℕ)) → o ≡ prefixed [] o
-prefixed_nil none = refl
-prefixed_nil (some f) = refl
-
 prefixed_push : (xs : List ℕ) (b : ℕ) (o : Option (List ℕ)) → prefixed xs (prefixed (b ∷ []) o) ≡ prefixed (xs ++ (b ∷ [])) o
-prefixed_push xs b none = refl
-prefixed_push xs b (some f) = ap some (sym (append_assoc xs (b ∷ []) f))
-
-pub scanned_none : (rest : List ℕ) → Scanned rest 0 0 1
-scanned_none rest = record { within = omega arith; few = omega arith; tops = tt; sum = refl; power = refl; field = prefixed_nil _ }
+prefixed_push xs b None = refl
+prefixed_push xs b (Some f) = ap Some (sym (append_assoc xs (b ∷ []) f))
 
 not_count : (f : List ℕ) → (varint (count_of f) ≡ f → ⊥) → is_count f ≡ false
 not_count f differ = by_test (same_bytes (varint (count_of f)) f) refl where
@@ -272,18 +248,12 @@ module _ (rest : List ℕ) (i n scale at : ℕ) (s : Scanned rest i n scale) whe
   long : i ≤ length rest → length (take i rest) ≡ i
   long h = length-take-le i rest h
 
-  pub scale_small : scale ≤ 34359738368
-  scale_small = let p : 128 ^ i ≤ 128 ^ 5 = pow-le-pow_right (lit< tt) s.few in let five : 128 ^ 5 ≡ 34359738368 = refl in omega (arith, p, five, s.power)
-
-  pub sum_small : n < scale
-  sum_small = let k = count_small (take i rest) in rw (s.sum, s.power) (rw (long s.within) at k)
-
   -- the bytes end inside the field
   pub scan_ends : i < 5 → length rest ≤ i → Err (Ends at) ≡ read_count at rest
   unfolding read_count
   scan_ends h short =
       let left : 5 - i ≡ suc (4 - i) = omega arith in
-      let none_found : count_field 5 rest ≡ none = s.field ∙ (let empty : prefixed (take i rest) (count_field (5 - i) (drop i rest)) ≡ none = rw (drop_all i rest short, left) refl in empty) in
+      let none_found : count_field 5 rest ≡ None = s.field ∙ (let empty : prefixed (take i rest) (count_field (5 - i) (drop i rest)) ≡ None = rw (drop_all i rest short, left) refl in empty) in
       sym (ap (count_at at) none_found)
 
   -- five bytes have the top bit
@@ -293,9 +263,9 @@ module _ (rest : List ℕ) (i n scale at : ℕ) (s : Scanned rest i n scale) whe
       let small = count_small (take i rest) in
       let bound : 128 ^ i ≤ 128 ^ 10 = (let few : i ≤ 10 = omega arith in pow-le-pow_right (lit< tt) few) in
       let none_left : 5 - i ≡ 0 = omega arith in
-      let whole : count_field 5 rest ≡ some (take i rest ++ []) = s.field ∙ ap (λ t. prefixed (take i rest) (count_field t (drop i rest))) none_left in
+      let whole : count_field 5 rest ≡ Some (take i rest ++ []) = s.field ∙ ap (λ t. prefixed (take i rest) (count_field t (drop i rest))) none_left in
       let refused : is_count (take i rest) ≡ false = not_count (take i rest) (not_tops 9 (count_of (take i rest)) (take i rest) (omega (arith, rw (long s.within) at small, bound)) s.tops) in
-      sym (ap (count_at at) (whole ∙ ap some (append-nil (take i rest))) ∙ cond-false _ _ _ refused)
+      sym (ap (count_at at) (whole ∙ ap Some (append-nil (take i rest))) ∙ cond-false _ _ _ refused)
 
   module _ (b : ℕ) (at_i : b ≡ get_or rest i 0) (inside : i < length rest) (h : i < 5) where
     is : drop i rest ≡ b ∷ drop (i + 1) rest
@@ -306,9 +276,6 @@ module _ (rest : List ℕ) (i n scale at : ℕ) (s : Scanned rest i n scale) whe
 
     total : count_of (take i rest ++ (b ∷ [])) ≡ n + b % 128 * scale
     total = rw (s.sum, s.power) (rw (long s.within) at (count_push (take i rest) b))
-
-    pub digit_small : b % 128 * scale ≤ 127 * scale
-    digit_small = mul-le-mul_right scale (let d : b % 128 ≤ 127 = omega arith in d)
 
     -- one byte with the top bit more
     pub scan_more : 128 ≤ b → b < 256 → Scanned rest (i + 1) (n + b % 128 * scale) (scale * 128)
@@ -325,10 +292,10 @@ module _ (rest : List ℕ) (i n scale at : ℕ) (s : Scanned rest i n scale) whe
           field = s.field ∙ next ∙ ap (λ t. prefixed t (count_field (5 - (i + 1)) (drop (i + 1) rest))) (sym front);
         }
 
-    found : b < 128 → count_field 5 rest ≡ some (take i rest ++ (b ∷ []))
+    found : b < 128 → count_field 5 rest ≡ Some (take i rest ++ (b ∷ []))
     found low =
         let left : 5 - i ≡ suc (4 - i) = omega arith in
-        let last : prefixed (take i rest) (count_field (5 - i) (drop i rest)) ≡ some (take i rest ++ (b ∷ [])) = rw (is, left, lt-ltb b 128 low) refl in
+        let last : prefixed (take i rest) (count_field (5 - i) (drop i rest)) ≡ Some (take i rest ++ (b ∷ [])) = rw (is, left, lt-ltb b 128 low) refl in
         s.field ∙ last
 
     field_length : length (take i rest ++ (b ∷ [])) ≡ i + 1

@@ -1,6 +1,6 @@
 -- The loop that writes multiples over the front of a slice, turn by turn. Assumes nothing.
 use Rattle.std.proofs.Common.{◌≡◌, ℕ, zero, suc, ◌+◌, ◌-◌, ◌<◌, ◌≤◌, List, [], ◌∷◌, ◌++◌, map, length, get_or, take, drop, set, sym, refl, ap, ◌∙◌, ap₂, append_assoc, append-nil, arith, length-set}
-use native.Mathlib.Nat.{sub-zero}
+use Rattle.std.proofs.Math.Nat.{sub-zero}
 use Rattle.std.proofs.lemmas.List.{map-append, map_push, length-map, take_more_set, drop-set-lt, drop_all, take_all, take_at, take-append-drop, drop-map}
 use Rattle.algebra.specs.Structures.{FieldOps, IsField, SpaceOps}
 use Rattle.algebra.specs.Sums.{powers}

@@ -1,16 +1,12 @@
 -- Each fault of this crate by number, layer and place. Assumes nothing.
 use Rattle.std.specs.Prelude.{ℕ}
-use Rattle.algebra.specs.declared.fault.Layer.{Layer}
-use Rattle.algebra.specs.declared.fault.Layer.TheVariants.{Bytes, Argument}
+use Rattle.algebra.specs.declared.entry.Entry.{Entry}
+use Rattle.algebra.specs.declared.entry.Layer.{Layer}
+use Rattle.algebra.specs.declared.entry.Layer.TheVariants.{Bytes, Argument}
 use Rattle.algebra.specs.declared.fault.ByteFault.{ByteFault}
 use Rattle.algebra.specs.declared.fault.ByteFault.TheVariants.{Ends, NotElement, NotCount, TooMany, Area, Output}
 use Rattle.algebra.specs.declared.fault.SetupFault.{SetupFault}
 use Rattle.algebra.specs.declared.fault.SetupFault.TheVariants.{Row}
-
-pub record Entry : Type 0 where
-  pub number : ℕ
-  pub layer : Layer
-  pub place : ℕ
 
 abbrev pub entry : ℕ → Layer → ℕ → Entry
 entry n l p = record { number = n; layer = l; place = p }

@@ -1,6 +1,5 @@
 -- The numbers below p, with sums and products modulo p. Assumes nothing.
-use Rattle.std.proofs.Math.Option.{Option}
-use Rattle.std.specs.Prelude.{ℕ, ◌+◌, ◌-◌, ◌*◌, ◌%◌, ◌<◌, nat_lt}
+use Rattle.std.specs.Prelude.{ℕ, ◌+◌, ◌-◌, ◌*◌, ◌%◌, ◌<◌, nat_lt, Option}
 use Rattle.std.proofs.Common.{mod-lt, arith}
 use Rattle.std.proofs.lemmas.Bool.{ltb-true}
 use Rattle.algebra.specs.Structures.{FieldOps}

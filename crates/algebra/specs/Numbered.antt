@@ -1,6 +1,5 @@
 -- Numbers as bytes, highest first, and elements that are written by their number. Assumes nothing.
-use Rattle.std.specs.Prelude.{◌≡◌, ℕ, zero, suc, ◌+◌, ◌*◌, ◌/◌, ◌%◌, ◌^◌, ◌<◌, ◌≤◌, Bool, true, false, cond, ◌&&◌, List, [], ◌∷◌, ◌++◌, length, take, ◌==◌, refl}
-use Rattle.std.proofs.Math.Option.{Option, none, some}
+use Rattle.std.specs.Prelude.{◌≡◌, ℕ, zero, suc, ◌+◌, ◌*◌, ◌/◌, ◌%◌, ◌^◌, ◌<◌, ◌≤◌, Bool, true, false, if◌then◌else◌, ◌&&◌, List, [], ◌∷◌, ◌++◌, length, take, ◌==◌, refl, Option, None, Some}
 use Rattle.algebra.specs.Codec.{Codec}
 
 -- The last `w` digits of n in base 256.
@@ -27,13 +26,13 @@ same_bytes (x ∷ xs) (y ∷ ys) = x == y && same_bytes xs ys
 
 -- A value that rests on a test, if the test passes.
 abbrev pub if_passed : {X : Type 0} (b : Bool) → (b ≡ true → X) → Option X
-if_passed true f = some (f refl)
-if_passed false f = none
+if_passed true f = Some (f refl)
+if_passed false f = None
 
 -- Each element by its number in `w` bytes; `find` is the element that a number is, if any.
 abbrev pub by_number : {X : Type 0} → ℕ → (number : X → ℕ) (find : ℕ → Option X) → Codec X
 by_number w number find = record {
   size = w;
   encode = λ x. big_endian w (number x);
-  decode = λ bytes. let n = number_after 0 bytes in cond (same_bytes (big_endian w n) bytes) (find n) none;
+  decode = λ bytes. let n = number_after 0 bytes in if same_bytes (big_endian w n) bytes then find n else None;
 }

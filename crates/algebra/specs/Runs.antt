@@ -1,12 +1,11 @@
 -- Elements written one behind the other, and the places of an area that they come from and go to. Assumes nothing.
-use Rattle.std.specs.Prelude.{◌≡◌, ℕ, zero, suc, ◌+◌, ◌*◌, ◌/◌, ◌%◌, Bool, true, false, List, [], ◌∷◌, ◌++◌, map, take, drop, Ok, Err, Result, slice_set}
-use Rattle.std.proofs.Math.Option.{Option, none, some}
+use Rattle.std.specs.Prelude.{◌≡◌, ℕ, zero, suc, ◌+◌, ◌*◌, ◌/◌, ◌%◌, Bool, true, false, List, [], ◌∷◌, ◌++◌, map, take, drop, Ok, Err, Result, slice_set, Option, None, Some}
 use Rattle.std.specs.List.{flat_map}
 use Rattle.algebra.specs.declared.fault.ByteFault.{ByteFault}
 use Rattle.algebra.specs.declared.run.Order.{Order}
 use Rattle.algebra.specs.declared.run.Order.TheVariants.{InTurn, Halves}
 use Rattle.algebra.specs.Codec.{Codec}
-use Rattle.algebra.specs.Bytes.{read_one}
+use Rattle.algebra.specs.Bytes.{Input, meant, read_one}
 
 -- The place in the area of the element that is written as number j.
 abbrev pub slot : Order → ℕ → ℕ
@@ -57,22 +56,23 @@ module _ {V : Type 0} (c : Codec V) where
 
   abbrev pub and_more : Result V ByteFault → Run → Run
   and_more (Ok x) rest = record { accepted = x ∷ rest.accepted; refused = rest.refused }
-  and_more (Err e) rest = record { accepted = []; refused = some e }
+  and_more (Err e) rest = record { accepted = []; refused = Some e }
 
   -- What is read where up to k elements begin at `at`.
   unfoldable pub read_run : ℕ → ℕ → List ℕ → Run
-  read_run zero at bytes = record { accepted = []; refused = none }
+  read_run zero at bytes = record { accepted = []; refused = None }
   read_run (suc k) at bytes = and_more (read_one c at (drop at bytes)) (read_run k (at + c.size) bytes)
 
 -- A refusal, or else the answer.
 abbrev pub unless : {X : Type 0} → Option ByteFault → Result X ByteFault → Result X ByteFault
-unless none r = r
-unless (some e) r = Err e
+unless None r = r
+unless (Some e) r = Err e
 
--- Up to k elements were read into an area, and the answer is where they end.
-pub record ReadsRun {G V : Type 0} (c : Codec V) (means : G → V) (order : Order) (k at : ℕ) (bytes : List ℕ) (before after : List G) (r : Result ℕ ByteFault) : Type 0 where
-  pub answer : r ≡ unless (read_run c k at bytes).refused (Ok (at + k * c.size))
-  pub area : Placed means (with_places order 0 (read_run c k at bytes).accepted) before after
+-- Up to k elements were read into an area; where all were, the reader stands behind them.
+pub record ReadsRun {G V : Type 0} (c : Codec V) (means : G → V) (order : Order) (k : ℕ) (from now : Input) (before after : List G) (r : Result (Unit {0}) ByteFault) : Type 0 where
+  pub answer : meant (λ _. now.at) r ≡ unless (read_run c k from.at from.bytes).refused (Ok (from.at + k * c.size))
+  pub same : now.bytes ≡ from.bytes
+  pub area : Placed means (with_places order 0 (read_run c k from.at from.bytes).accepted) before after
 
 -- What reading a record into an area answers, and the elements that it has then placed.
 pub record Reading (X V : Type 0) : Type 0 where

@@ -1,6 +1,6 @@
-// Bytes at the front of a slice: what encodings of elements are written and read by.
-ghost use Rattle.std.specs.Prelude.{◌≡◌, ◌<◌, ◌≤◌, length, drop, Some, None};
-ghost use Rattle.algebra.specs.Bytes.{Written, read_byte};
+// Bytes and numbers: what encodings of elements are written and read by.
+ghost use Rattle.std.specs.Prelude.{◌≡◌, ◌≤◌, length, MatchOption};
+ghost use Rattle.algebra.specs.Bytes.{Written};
 ghost use Rattle.algebra.specs.Numbered.{Digits};
 
 use crate::fault::ByteFault;
@@ -17,33 +17,17 @@ pub fn put(code: &[u8], out: &mut [u8]) -> Result<usize, ByteFault>
     Ok(n)
 }
 
-// The number in the `width` bytes that begin at `at`, highest first; none if the bytes end before, or if there are more than seven.
-pub fn number_at(bytes: &[u8], at: usize, width: usize) -> Option<u64>
-    ensures { elim result [
-      | Some n ↦ (width ≤ 7) × Digits width (drop at bytes.now) n
-      | None ↦ (width ≤ 7 → length (drop at bytes.now) < width)
-    ] }
+// The number that `width` bytes are, highest first; none for more or fewer bytes, or for a width above seven.
+// The width is what the field wants, and no part of the buffer; a constant of a trait cannot be the length of an array type.
+pub fn number(code: &[u8], width: usize) -> Option<u64>
+    ensures { MatchOption result (width ≤ 7 → ¬ (length code.now ≡ width)) (λ n. (width ≤ 7) × (length code.now ≡ width) × Digits width code.now n) }
 {
-    if width > 7 {
-        return None;
-    }
-    let left = bytes.len().saturating_sub(at);
-    if left < width {
+    if width > 7 || code.len() != width {
         return None;
     }
     let mut n = 0u64;
-    for i in 0..width {
-        n = n * 256 + bytes[at + i] as u64;
+    for byte in code {
+        n = n * 256 + u64::from(*byte);
     }
     Some(n)
-}
-
-// The byte at `at`.
-pub fn byte_at(bytes: &[u8], at: usize) -> Result<u8, ByteFault>
-    ensures { result ≡ read_byte at (drop at bytes.now) }
-{
-    if at >= bytes.len() {
-        return Err(ByteFault::Ends(at));
-    }
-    Ok(bytes[at])
 }

@@ -1,14 +1,10 @@
-// What this crate refuses, each fault by number, layer and place.
+// What is refused: each fault by number, layer and place.
 ghost use Rattle.std.specs.Prelude.{◌≡◌};
 ghost use Rattle.algebra.specs.Faults.{byte_entry, setup_entry};
 
-// The layer that a fault belongs to.
-#[derive(Clone, Copy, PartialEq, Eq, Debug)]
-pub enum Layer {
-    Bytes,
-    Line,
-    Argument,
-}
+use crate::entry::{Entry, Layer, Refusal};
+use std::error::Error;
+use std::fmt;
 
 // A refusal to read or write, with the offset at which the refused field begins.
 #[derive(Clone, Copy, PartialEq, Eq, Debug)]
@@ -27,37 +23,38 @@ pub enum ByteFault {
     Output,
 }
 
-impl ByteFault {
-    pub fn number(self) -> u8
-        ensures { result ≡ (byte_entry self).number }
-    {
-        match self {
-            ByteFault::Ends(_) => 1,
-            ByteFault::NotElement(_) => 2,
-            ByteFault::NotCount(_) => 3,
-            ByteFault::TooMany(_) => 4,
-            ByteFault::Area(_) => 5,
-            ByteFault::Output => 6,
+impl Refusal for ByteFault {
+    ghost listed = { byte_entry };
+
+    fn entry(self) -> Entry {
+        let (number, place) = match self {
+            ByteFault::Ends(at) => (1, at),
+            ByteFault::NotElement(at) => (2, at),
+            ByteFault::NotCount(at) => (3, at),
+            ByteFault::TooMany(at) => (4, at),
+            ByteFault::Area(at) => (5, at),
+            ByteFault::Output => (6, 0),
+        };
+        Entry {
+            number,
+            layer: Layer::Bytes,
+            place,
         }
     }
+}
 
-    pub fn layer(self) -> Layer
-        ensures { result ≡ (byte_entry self).layer }
-    {
-        Layer::Bytes
-    }
+impl Error for ByteFault {}
 
-    pub fn place(self) -> usize
-        ensures { result ≡ (byte_entry self).place }
-    {
-        match self {
-            ByteFault::Ends(at)
-            | ByteFault::NotElement(at)
-            | ByteFault::NotCount(at)
-            | ByteFault::TooMany(at)
-            | ByteFault::Area(at) => at,
-            ByteFault::Output => 0,
-        }
+impl fmt::Display for ByteFault {
+    fn fmt<W: fmt::Write>(&self, f: &mut fmt::Formatter<W>) -> fmt::Result {
+        f.write_str(match self {
+            ByteFault::Ends(_) => "the input ends inside a field",
+            ByteFault::NotElement(_) => "the bytes are no element",
+            ByteFault::NotCount(_) => "the count is not a shortest varint below 2^32",
+            ByteFault::TooMany(_) => "the count is above what is permitted",
+            ByteFault::Area(_) => "the area is too short",
+            ByteFault::Output => "the output is shorter than the encoding",
+        })
     }
 }
 
@@ -68,28 +65,24 @@ pub enum SetupFault {
     Row,
 }
 
-impl SetupFault {
-    pub fn number(self) -> u8
-        ensures { result ≡ (setup_entry self).number }
-    {
-        match self {
-            SetupFault::Row => 23,
+impl Refusal for SetupFault {
+    ghost listed = { setup_entry };
+
+    fn entry(self) -> Entry {
+        let SetupFault::Row = self;
+        Entry {
+            number: 23,
+            layer: Layer::Argument,
+            place: 0,
         }
     }
+}
 
-    pub fn layer(self) -> Layer
-        ensures { result ≡ (setup_entry self).layer }
-    {
-        match self {
-            SetupFault::Row => Layer::Argument,
-        }
-    }
+impl Error for SetupFault {}
 
-    pub fn place(self) -> usize
-        ensures { result ≡ (setup_entry self).place }
-    {
-        match self {
-            SetupFault::Row => 0,
-        }
+impl fmt::Display for SetupFault {
+    fn fmt<W: fmt::Write>(&self, f: &mut fmt::Formatter<W>) -> fmt::Result {
+        let SetupFault::Row = self;
+        f.write_str("the row is no setup")
     }
 }

@@ -1,15 +1,17 @@
 // Fields: numbers that can be added, multiplied and inverted, and numbers drawn from 64 bits.
-ghost use Rattle.std.specs.Prelude.{◌≡◌, ℕ, ◌≤◌, T, drop};
+ghost use Rattle.std.specs.Prelude.{◌≡◌, ℕ, ◌≤◌, ◌↔◌, true, option_map};
 ghost use Rattle.algebra.specs.Structures.{FieldOps, IsField};
 ghost use Rattle.algebra.specs.Codec.{Codec, IsCodec};
-ghost use Rattle.algebra.specs.Bytes.{Written, meant, read_one};
+ghost use Rattle.algebra.specs.Bytes.{Written};
 
 use crate::fault::ByteFault;
 
 // A value means an element of a field; several values may mean one element.
-pub trait Field: Copy {
+pub trait Field: Copy + Eq {
     // How many bytes one element takes, from 1 to 64.
     const SIZE: usize;
+
+    ghost SIZE: { ℕ };
 
     ghost Elem: { Type 0 };
 
@@ -21,10 +23,6 @@ pub trait Field: Copy {
     ghost field: { FieldOps Elem };
 
     ghost codec: { Codec Elem };
-
-    // `SIZE`, for code over any field.
-    fn width() -> usize
-        ensures { result ≡ codec.size };
 
     fn zero() -> Self
         ensures { means result ≡ field.zero };
@@ -45,24 +43,24 @@ pub trait Field: Copy {
     fn inv(self) -> Self
         ensures { means result ≡ field.inv (means self) };
 
-    // Whether both mean one element.
-    fn same(self, other: Self) -> bool
-        ensures yes { T result → means self ≡ means other }
-        ensures back { means self ≡ means other → T result };
-
-    // The element whose encoding begins at `at`; what follows is ignored.
-    fn read(bytes: &[u8], at: usize) -> Result<Self, ByteFault>
-        ensures { meant means result ≡ read_one codec at (drop at bytes.now) };
+    // The element whose encoding the bytes are; none for all others.
+    fn decode(code: &[u8]) -> Option<Self>
+        ensures { option_map means result ≡ codec.decode code.now };
 
     // Writes the encoding to the front of the output, and answers its length.
     fn write(self, out: &mut [u8]) -> Result<usize, ByteFault>
         ensures { Written (codec.encode (means self)) out.old out.new result };
+
+    // Values are equal where they mean one element.
+    ghost equal: { (x y : Self) → (Self.PartialEq.eq x y ≡ true) ↔ (means x ≡ means y) };
 
     ghost picked: { (x : Elem) → means (pick x) ≡ x };
 
     ghost lawful: { IsField field };
 
     ghost encodes: { IsCodec codec };
+
+    ghost measured: { codec.size ≡ SIZE };
 
     ghost sized: { (1 ≤ codec.size) × (codec.size ≤ 64) };
 }

@@ -3,10 +3,12 @@
 
 pub mod bytes;
 pub mod claim;
+pub mod entry;
 pub mod fault;
 pub mod field;
 pub mod fold;
 pub mod proof;
+pub mod reader;
 pub mod run;
 pub mod setup;
 pub mod space;

@@ -1,17 +1,18 @@
 // A proof: what the prover sent, beside an area with L and R of each round.
-ghost use Rattle.std.specs.Prelude.{◌≡◌, ◌<◌, true, drop};
-ghost use Rattle.algebra.specs.Bytes.{Written, read_bytes};
-ghost use Rattle.algebra.specs.Proofs.{finals_read, permits_rounds, encode_finals, read_finals, proof_size, WritesProof, ReadsProof};
+ghost use Rattle.std.specs.Prelude.{◌≡◌, ◌<◌, true};
+ghost use Rattle.algebra.specs.Bytes.{Written, meant};
+ghost use Rattle.algebra.specs.Proofs.{finals_of, permits_rounds, encode_finals, read_finals, proof_size, WritesProof, ReadsProof};
 
 use crate::fault::ByteFault;
 use crate::field::Field;
+use crate::reader::Reader;
 use crate::run::Order;
 use crate::space::Space;
 use crate::{bytes, run, varint};
 
-#[derive(Clone, Copy)]
+#[derive(Clone, Copy, PartialEq, Eq)]
 pub struct Proof<F> {
-    // The area has L_1, R_1, L_2, R_2, .., two for each round.
+    // Two elements for each round, L_1, R_1, L_2, R_2, .., are in an area beside: it is lent with each call, since a record has no memory of its own.
     pub rounds: u8,
     // The transcript's, after the last round.
     pub summary: [u8; 32],
@@ -28,31 +29,22 @@ fn permits(highest: usize, rounds: usize) -> bool
     rounds == 0 || rounds < 64 && 1usize << rounds <= highest
 }
 
-// The 32 bytes that begin at `at`.
-fn summary_at(bytes: &[u8], at: usize) -> Result<[u8; 32], ByteFault>
-    ensures { result ≡ read_bytes 32 at (drop at bytes.now) }
-{
-    let left = bytes.len().saturating_sub(at);
-    if left < 32 {
-        return Err(ByteFault::Ends(at));
-    }
-    let mut summary = [0u8; 32];
-    summary.copy_from_slice(&bytes[at..at + 32]);
-    Ok(summary)
-}
-
 impl<F: Field> Proof<F> {
     // How many bytes the proof takes.
-    pub fn size<G: Space<Scalar = F>>(self) -> usize
-        ensures { result ≡ proof_size F.Field.codec G.Space.codec self.rounds }
+    pub fn size<G: Space<Scalar = F>>(&self) -> usize
+        ensures { result ≡ proof_size F.Field.codec G.Space.codec self.now.rounds }
     {
         let n = self.rounds as usize;
-        varint::size(n as u64) + 2 * n * G::width() + (32 + F::width() + F::width())
+        varint::size(n as u64) + 2 * n * G::SIZE + (32 + F::SIZE + F::SIZE)
     }
 
     // Writes the proof to the front of the output, and answers its length.
-    pub fn write<G: Space<Scalar = F>>(self, area: &[G], out: &mut [u8]) -> Result<usize, ByteFault>
-        ensures { WritesProof F.Field.codec G.Space.codec F.Field.means G.Space.means self area.now out.old out.new result }
+    pub fn write<G: Space<Scalar = F>>(
+        &self,
+        area: &[G],
+        out: &mut [u8],
+    ) -> Result<usize, ByteFault>
+        ensures { WritesProof F.Field.codec G.Space.codec F.Field.means G.Space.means self.now area.now out.old out.new result }
     {
         let n = self.rounds as usize;
         if area.len() < 2 * n {
@@ -62,11 +54,11 @@ impl<F: Field> Proof<F> {
         if out.len() < size {
             return Err(ByteFault::Output);
         }
-        // There is room for all, so that no part is refused.
+        // There is room for all, so that no part is refused; a refusal of writing has no place, so that no writer keeps one.
         let _ = varint::write(n as u64, out);
         let rounds_at = varint::size(n as u64);
         let _ = run::write_run(area, 2 * n, Order::InTurn, &mut out[rounds_at..]);
-        let finals_at = rounds_at + 2 * n * G::width();
+        let finals_at = rounds_at + 2 * n * G::SIZE;
         let _ = self.write_finals(&mut out[finals_at..]);
         Ok(size)
     }
@@ -79,46 +71,41 @@ impl<F: Field> Proof<F> {
     ) -> Result<(Proof<F>, usize), ByteFault>
         ensures { ReadsProof F.Field.codec G.Space.codec F.Field.means G.Space.means highest bytes.now area.old area.new result }
     {
-        let count = varint::read(bytes, 0)?;
-        let n = count.0 as usize;
+        let mut input = Reader::new(bytes, 0);
+        let n = varint::read(&mut input)? as usize;
         if !permits(highest, n) {
             return Err(ByteFault::TooMany(0));
         }
         if area.len() < 2 * n {
             return Err(ByteFault::Area(0));
         }
-        let end = run::read_run(bytes, count.1, 2 * n, Order::InTurn, area)?;
-        Proof::read_finals(bytes, end, n as u8)
+        run::read_run(&mut input, 2 * n, Order::InTurn, area)?;
+        let proof = Proof::read_finals(&mut input, n as u8)?;
+        Ok((proof, input.at()))
     }
 
-    // What follows the rounds, where it begins at `at`, and where it ends.
-    fn read_finals(bytes: &[u8], at: usize, rounds: u8) -> Result<(Proof<F>, usize), ByteFault>
-        ensures { finals_read F.Field.means result ≡ read_finals F.Field.codec rounds at bytes.now }
+    // What follows the rounds.
+    fn read_finals(input: &mut Reader, rounds: u8) -> Result<Proof<F>, ByteFault>
+        ensures { meant (λ p. (finals_of F.Field.means p, input.new.at)) result ≡ read_finals F.Field.codec rounds input.old.at input.old.bytes }
     {
-        let summary = summary_at(bytes, at)?;
-        let a_at = at + 32;
-        let a_final = F::read(bytes, a_at)?;
-        let b_at = a_at + F::width();
-        let b_final = F::read(bytes, b_at)?;
-        let proof = Proof {
+        Ok(Proof {
             rounds,
-            summary,
-            a_final,
-            b_final,
-        };
-        Ok((proof, b_at + F::width()))
+            summary: input.array()?,
+            a_final: input.element()?,
+            b_final: input.element()?,
+        })
     }
 
     // Writes what follows the rounds to the front of the output.
-    fn write_finals(self, out: &mut [u8]) -> Result<usize, ByteFault>
-        ensures { Written (encode_finals F.Field.codec self.summary (F.Field.means self.a_final) (F.Field.means self.b_final)) out.old out.new result }
+    fn write_finals(&self, out: &mut [u8]) -> Result<usize, ByteFault>
+        ensures { Written (encode_finals F.Field.codec self.now.summary (F.Field.means self.now.a_final) (F.Field.means self.now.b_final)) out.old out.new result }
     {
-        let b_at = 32 + F::width();
-        let size = b_at + F::width();
+        let b_at = 32 + F::SIZE;
+        let size = b_at + F::SIZE;
         if out.len() < size {
             return Err(ByteFault::Output);
         }
-        // There is room for all, so that no part is refused.
+        // There is room for all, so that no part is refused; a refusal of writing has no place, so that no writer keeps one.
         let _ = bytes::put(&self.summary, out);
         let _ = self.a_final.write(&mut out[32..]);
         let _ = self.b_final.write(&mut out[b_at..]);

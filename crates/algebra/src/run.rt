@@ -5,9 +5,11 @@ ghost use Rattle.algebra.specs.Runs.{slot as place, ReadsRun, encode_run, in_ord
 ghost use Rattle.algebra.specs.Over.{elements};
 
 use crate::fault::ByteFault;
+use crate::reader::Reader;
 use crate::space::Space;
 
 // In which order the places of an area are written.
+// Not a closure: both orders are named in the contracts of all that reads or writes an area.
 #[derive(Clone, Copy)]
 pub enum Order {
     // As they stand.
@@ -29,26 +31,25 @@ impl Order {
     }
 }
 
-// Reads `count` elements, the first at `at`, into their places, and answers where they end.
+// Reads `count` elements into their places.
+// By number: two halves in turn are `first.iter_mut().zip(second)`, after which a proof knows nothing of them, as in `weigh`.
 pub(crate) fn read_run<G: Space>(
-    bytes: &[u8],
-    at: usize,
+    input: &mut Reader,
     count: usize,
     order: Order,
     area: &mut [G],
-) -> Result<usize, ByteFault>
+) -> Result<(), ByteFault>
     requires { (j : ℕ) → j < count → place order j < length area.old }
-    ensures { ReadsRun G.Space.codec G.Space.means order count at bytes.now area.old area.new result }
+    ensures { ReadsRun G.Space.codec G.Space.means order count input.old input.new area.old area.new result }
 {
-    let mut end = at;
     for j in 0..count {
-        area[order.slot(j)] = G::read(bytes, end)?;
-        end += G::width();
+        area[order.slot(j)] = input.element()?;
     }
-    Ok(end)
+    Ok(())
 }
 
 // Writes `count` elements from their places to the front of the output, and answers their length.
+// By number, as they are read: one contract says for both where element j is.
 pub(crate) fn write_run<G: Space>(
     area: &[G],
     count: usize,
@@ -57,16 +58,16 @@ pub(crate) fn write_run<G: Space>(
 ) -> Result<usize, ByteFault>
     requires few { count ≤ 2097152 }
     requires within { (j : ℕ) → j < count → place order j < length area.now }
-    ensures { Written (encode_run G.Space.codec (elements G.Space (in_order order 0 count area.now))) out.old out.new result }
+    ensures { Written (encode_run G.Space.codec (elements G.Space.own (in_order order 0 count area.now))) out.old out.new result }
 {
-    if out.len() < count * G::width() {
+    if out.len() < count * G::SIZE {
         return Err(ByteFault::Output);
     }
     let mut end = 0;
     for j in 0..count {
         // There is room for all, so that no element is refused.
         let _ = area[order.slot(j)].write(&mut out[end..]);
-        end += G::width();
+        end += G::SIZE;
     }
     Ok(end)
 }

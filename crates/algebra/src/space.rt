@@ -1,19 +1,24 @@
 // Spaces: elements that can be added, and multiplied by the numbers of a field.
-ghost use Rattle.std.specs.Prelude.{◌≡◌, ℕ, ◌≤◌, T, drop};
+ghost use Rattle.std.specs.Prelude.{◌≡◌, ℕ, ◌≤◌, ◌↔◌, true, option_map};
 ghost use Rattle.algebra.specs.Structures.{GroupOps, IsGroup, with_multiples, OverSum, OverAdd, OverMul, ByOne};
 ghost use Rattle.algebra.specs.Codec.{Codec, IsCodec};
-ghost use Rattle.algebra.specs.Bytes.{Written, meant, read_one};
+ghost use Rattle.algebra.specs.Bytes.{Written};
 
 use crate::fault::ByteFault;
 use crate::field::Field;
 
+mod itself;
+
 // A value means an element of a commutative group with multiples by the elements of a field.
-pub trait Space: Copy {
+// `Field` has ten of these members word for word: the data of a trait cannot speak of the elements of a trait above it.
+pub trait Space: Copy + Eq {
     // The field of its scalars.
     type Scalar: Field;
 
     // How many bytes one element takes, from 1 to 512.
     const SIZE: usize;
+
+    ghost SIZE: { ℕ };
 
     ghost Elem: { Type 0 };
 
@@ -25,10 +30,6 @@ pub trait Space: Copy {
     ghost times: { Self.Scalar → Elem → Elem };
 
     ghost codec: { Codec Elem };
-
-    // `SIZE`, for code over any space.
-    fn width() -> usize
-        ensures { result ≡ codec.size };
 
     fn zero() -> Self
         ensures { means result ≡ group.zero };
@@ -42,14 +43,9 @@ pub trait Space: Copy {
     fn scale(self, s: Self::Scalar) -> Self
         ensures { means result ≡ times (Self.Scalar.Field.pick (Self.Scalar.Field.means s)) (means self) };
 
-    // Whether both mean one element.
-    fn same(self, other: Self) -> bool
-        ensures yes { T result → means self ≡ means other }
-        ensures back { means self ≡ means other → T result };
-
-    // The element whose encoding begins at `at`; what follows is ignored.
-    fn read(bytes: &[u8], at: usize) -> Result<Self, ByteFault>
-        ensures { meant means result ≡ read_one codec at (drop at bytes.now) };
+    // The element whose encoding the bytes are; none for all others.
+    fn decode(code: &[u8]) -> Option<Self>
+        ensures { option_map means result ≡ codec.decode code.now };
 
     // Writes the encoding to the front of the output, and answers its length.
     fn write(self, out: &mut [u8]) -> Result<usize, ByteFault>
@@ -73,9 +69,14 @@ pub trait Space: Copy {
     fn scale_by_one()
         ensures { ByOne Self.Scalar.Field.field (with_multiples group (λ s. times (Self.Scalar.Field.pick s))) };
 
+    // Values are equal where they mean one element.
+    ghost equal: { (x y : Self) → (Self.PartialEq.eq x y ≡ true) ↔ (means x ≡ means y) };
+
     ghost lawful: { IsGroup group };
 
     ghost encodes: { IsCodec codec };
+
+    ghost measured: { codec.size ≡ SIZE };
 
     ghost sized: { (1 ≤ codec.size) × (codec.size ≤ 512) };
 }

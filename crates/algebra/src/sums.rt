@@ -1,6 +1,6 @@
-// Sums over slices, each as far as both go, with the index for the partner.
+// Sums over slices, each as far as both go. They take the partner by the index: a rule of the project.
 ghost use Rattle.std.specs.Prelude.{◌≡◌, length};
-ghost use Rattle.algebra.specs.Structures.{IsSpace};
+ghost use Rattle.algebra.specs.Structures.{IsSpace, over_itself, with_multiples};
 ghost use Rattle.algebra.specs.Folds.{SumsOfMixes};
 ghost use Rattle.algebra.specs.Over.{space_over, numbers, elements};
 ghost use Rattle.algebra.specs.Sums.{lin, dot as inner, products, powers};
@@ -10,21 +10,14 @@ use crate::space::Space;
 
 // The inner product a₀ b₀ + a₁ b₁ + ..
 pub fn dot<F: Field>(a: &[F], b: &[F]) -> F
-    ensures { F.Field.means result ≡ inner F.Field.field (numbers F.Field a.now) (numbers F.Field b.now) }
+    ensures { F.Field.means result ≡ inner F.Field.field (numbers F.Field.own a.now) (numbers F.Field.own b.now) }
 {
-    let mut sum = F::zero();
-    for (i, x) in a.iter().enumerate() {
-        if i >= b.len() {
-            break;
-        }
-        sum = sum.add(x.mul(b[i]));
-    }
-    sum
+    msm(a, b)
 }
 
 // The multi-scalar sum s₀ v₀ + s₁ v₁ + ..
 pub fn msm<F: Field, G: Space<Scalar = F>>(scalars: &[F], points: &[G]) -> G
-    ensures { G.Space.means result ≡ lin (space_over F.Field G.Space) (numbers F.Field scalars.now) (elements G.Space points.now) }
+    ensures { G.Space.means result ≡ lin (space_over F.Field.own G.Space.own) (numbers F.Field.own scalars.now) (elements G.Space.own points.now) }
 {
     let mut sum = G::zero();
     for (i, s) in scalars.iter().enumerate() {
@@ -38,9 +31,9 @@ pub fn msm<F: Field, G: Space<Scalar = F>>(scalars: &[F], points: &[G]) -> G
 
 // The same with powers of y: s₀ v₀ + y s₁ v₁ + y² s₂ v₂ + ..
 pub fn msm_powers<F: Field, G: Space<Scalar = F>>(y: F, scalars: &[F], points: &[G]) -> G
-    ensures { G.Space.means result ≡ lin (space_over F.Field G.Space)
-        (products F.Field.field (powers F.Field.field (F.Field.means y) (length scalars.now)) (numbers F.Field scalars.now))
-        (elements G.Space points.now) }
+    ensures { G.Space.means result ≡ lin (space_over F.Field.own G.Space.own)
+        (products F.Field.field (powers F.Field.field (F.Field.means y) (length scalars.now)) (numbers F.Field.own scalars.now))
+        (elements G.Space.own points.now) }
 {
     let mut sum = G::zero();
     let mut power = F::one();
@@ -54,10 +47,15 @@ pub fn msm_powers<F: Field, G: Space<Scalar = F>>(y: F, scalars: &[F], points: &
     sum
 }
 
+// As a space over itself a field has its products for multiples: called where a proof needs it, it does nothing.
+pub fn itself<F: Field>()
+    ensures { with_multiples ⟦<F as Space>⟧.group (λ s. ⟦<F as Space>⟧.times (F.pick s)) ≡ over_itself F.Field.field }
+{}
+
 // The laws of a space in one record, and what they give of sums: called where a proof needs them, it does nothing.
 pub fn laws<F: Field, G: Space<Scalar = F>>()
-    ensures space { IsSpace F.Field.field (space_over F.Field G.Space) }
-    ensures sums { SumsOfMixes F.Field.field (space_over F.Field G.Space) }
+    ensures space { IsSpace F.Field.field (space_over F.Field.own G.Space.own) }
+    ensures sums { SumsOfMixes F.Field.field (space_over F.Field.own G.Space.own) }
 {
     G::scale_over_sum();
     G::scale_over_add();

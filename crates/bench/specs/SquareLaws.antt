@@ -1,13 +1,12 @@
 -- The laws of the squares modulo 503. Assumes nothing.
-use Rattle.std.specs.Prelude.{◌≡◌, ℕ, ◌+◌, ◌*◌, ◌%◌, ◌^◌, ◌<◌, false, ◌==◌, nat_lt, refl}
-use Rattle.std.proofs.Common.{sym, ap, ◌∙◌, subst, mod-eq_of_lt, pow-suc, mul_assoc, mul_comm, mul-one, one-mul, add-one, arith, pow-add}
-use Rattle.std.proofs.Math.Option.{some, none}
+use Rattle.std.specs.Prelude.{◌≡◌, ℕ, ◌+◌, ◌*◌, ◌%◌, ◌^◌, ◌<◌, ◌↔◌, true, false, ◌==◌, nat_eq, nat_lt, refl, Some, None}
+use Rattle.std.proofs.Common.{sym, ap, ◌∙◌, subst, mod-eq_of_lt, pow-suc, mul_assoc, mul_comm, mul-one, one-mul, arith, pow-add}
 use Rattle.std.proofs.Math.Bridge.{le_prop}
 use Rattle.std.proofs.Math.Nat.{ℕ_set, pow-zero}
-use Rattle.std.proofs.lemmas.Bool.{lt-ltb, eq-eqb, and_from}
+use Rattle.std.proofs.lemmas.Bool.{lt-ltb, eqb-true, eq-eqb, and_from}
 use Rattle.algebra.specs.Structures.{IsGroup, SpaceOps, with_multiples, OverSum, OverAdd, OverMul, ByOne}
 use Rattle.algebra.specs.Powers.{mod-mul-mod, mul-mod-mod, both_mod, pow-mod, mul-pow, pow-mul, pow_order}
-use Rattle.bench.specs.Mod251.{Mod251, field251}
+use Rattle.modular.specs.Mod251.{Mod251, field251}
 use Rattle.bench.specs.Squares.{Square, square, squares, power, is_square, square_at}
 use Rattle.algebra.proofs.BigEndian.{Numbers, if_passes, if_fails, passed_from}
 
@@ -44,11 +43,11 @@ over_mul s t v = by_value _ _ (pow_order v.value 503 251 (s.value * t.value) v.u
 pub by_one : ByOne field251 space
 by_one v = by_value _ _ (ap q (pow-suc v.value 0 ∙ ap (λ t. t * v.value) (pow-zero v.value) ∙ one-mul v.value) ∙ mod-eq_of_lt v.below)
 
-pub found : (x : Square) → square_at x.value ≡ some x
+pub found : (x : Square) → square_at x.value ≡ Some x
 found x = if_passes (is_square x.value) _ x (λ e. by_value _ _ refl)
     (and_from (nat_lt x.value 503) (x.value ^ 251 % 503 == 1) (lt-ltb x.value 503 x.below) (eq-eqb (x.value ^ 251 % 503) 1 x.unit))
 
-pub not_found : (n : ℕ) → is_square n ≡ false → square_at n ≡ none
+pub not_found : (n : ℕ) → is_square n ≡ false → square_at n ≡ None
 not_found n e = if_fails (is_square n) _ e
 
 pub square_numbers : Numbers 2 (λ (x : Square). x.value) square_at
@@ -58,14 +57,8 @@ square_numbers = record {
   only = λ n x e. ap (λ (r : Square). r.value) (passed_from (is_square n) _ x e).1;
 }
 
--- One bit of an exponent, lowest first: p s^b stays the same modulo q where s is squared and b halved.
-pub even_step : (q p s k : ℕ) → (p * (s * s % q) ^ k) % q ≡ (p * s ^ (k + k)) % q
-even_step q p s k =
-    sym (mul-mod-mod p ((s * s % q) ^ k) q)
-    ∙ ap (λ t. p * t % q) (pow-mod (s * s) q k ∙ ap (λ t. t % q) (mul-pow s s k ∙ sym (pow-add s k k)))
-    ∙ mul-mod-mod p (s ^ (k + k)) q
-
-pub odd_step : (q p s k : ℕ) → ((p * s % q) * (s * s % q) ^ k) % q ≡ (p * s ^ (k + k + 1)) % q
-odd_step q p s k =
-    mod-mul-mod (p * s) ((s * s % q) ^ k) q ∙ even_step q (p * s) s k
-    ∙ ap (λ t. t % q) (mul_assoc p s (s ^ (k + k)) ∙ ap (λ t. p * t) (mul_comm s (s ^ (k + k)) ∙ sym (rw (add-one (k + k)) (pow-suc s (k + k)))))
+pub equal_squares : (x y : Square) → (nat_eq x.value y.value ≡ true) ↔ (x ≡ y)
+equal_squares x y = (
+  (λ t. by_value x y (eqb-true x.value y.value t)),
+  (λ e. eq-eqb x.value y.value (ap (λ (r : Square). r.value) e)),
+)

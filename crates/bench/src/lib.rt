@@ -1,5 +1,4 @@
 // The bench: small enough to follow by hand, and no cryptographic commitment.
 #![tactic(auto)]
 
-pub mod mod251;
 pub mod squares;

@@ -1,35 +1,42 @@
 // The squares modulo 503 as a space over the integers modulo 251: sums are products, and s times v is v^s.
-ghost use Rattle.std.specs.Prelude.{◌≡◌, ℕ, ◌%◌, ◌^◌, ◌<◌, true, false, Some, None};
+ghost use Rattle.std.specs.Prelude.{◌≡◌, ◌%◌, ◌^◌, false, refl, MatchOption};
 ghost use Rattle.std.proofs.Common.{lit≤};
+ghost use Rattle.algebra.specs.Modular.{residue};
 ghost use Rattle.algebra.proofs.BigEndian.{numbers_encode};
 ghost use Rattle.bench.specs.Squares.{Square as Elem503, square, squares as group503, power as powers, is_square, square_at, codec503};
-ghost use Rattle.bench.specs.SquareLaws.{squares_group, square_numbers};
+ghost use Rattle.bench.specs.SquareLaws.{squares_group, square_numbers, equal_squares};
 
-use crate::mod251::Mod251;
 use algebra::bytes;
 use algebra::fault::ByteFault;
 use algebra::field::Field;
 use algebra::space::Space;
+use modular::mod251::Mod251;
+use modular::mod503::Mod503;
+use std::marker::Model;
 
 pub mod setup;
 
-#[derive(Clone, Copy)]
+#[derive(Clone, Copy, PartialEq, Eq)]
 pub struct Square {
-    value: u16,
-    ghost below: { value < 503 },
-    ghost unit: { value ^ 251 % 503 ≡ 1 },
+    value: Mod503,
+    ghost unit: { value.value ^ 251 % 503 ≡ 1 },
+}
+
+impl Model for Square {
+    ghost Value = { Elem503 };
+
+    ghost view = { λ s. square s.value.value s.value.below s.unit };
+
+    ghost inverse = { λ x. record { value = residue x.value x.below; unit = x.unit } };
 }
 
 impl Square {
-    // The element that the number is, if it is one.
+    // The element that the number is, if it is one. As in the fields, and no `TryFrom`: its error would say no more.
     pub fn new(value: u64) -> Option<Square>
-        ensures { elim result [ Some x ↦ x.value ≡ value | None ↦ is_square value ≡ false ] }
+        ensures { MatchOption result (is_square value ≡ false) (λ x. x.value ≡ value) }
     {
-        if value >= 503 {
-            return None;
-        }
-        let value = value as u16;
-        if power(value, 251) != 1 {
+        let value = Mod503::new(value)?;
+        if value.pow(251) != Mod503::one() {
             return None;
         }
         Some(Square { value })
@@ -38,26 +45,8 @@ impl Square {
     pub fn value(self) -> u64
         ensures { result ≡ self.value }
     {
-        self.value as u64
+        self.value.value()
     }
-}
-
-// v^e modulo 503, by the bits of e, lowest first.
-fn power(v: u16, e: u8) -> u16
-    requires { v < 503 }
-    ensures { result ≡ v ^ e % 503 }
-{
-    let mut product = 1u32;
-    let mut square = v as u32;
-    let mut bits = e;
-    while bits > 0 {
-        if bits % 2 == 1 {
-            product = product * square % 503;
-        }
-        square = square * square % 503;
-        bits /= 2;
-    }
-    product as u16
 }
 
 impl Space for Square {
@@ -65,9 +54,11 @@ impl Space for Square {
 
     const SIZE: usize = 2;
 
+    ghost SIZE = { 2 };
+
     ghost Elem = { Elem503 };
 
-    ghost means = { λ x. square x.value x.below x.unit };
+    ghost means = { λ x. x };
 
     ghost group = { group503 };
 
@@ -75,54 +66,46 @@ impl Space for Square {
 
     ghost codec = { codec503 };
 
+    ghost equal = { equal_squares };
+
     ghost lawful = { squares_group };
 
     ghost encodes = { numbers_encode 2 (λ (x : Elem503). x.value) square_at square_numbers };
 
+    ghost measured = { refl };
+
     ghost sized = { (lit≤ tt, lit≤ tt) };
 
-    fn width() -> usize {
-        Self::SIZE
-    }
-
     fn zero() -> Square {
-        Square { value: 1 }
+        Square {
+            value: Mod503::one(),
+        }
     }
 
     fn add(self, other: Square) -> Square {
         Square {
-            value: (self.value as u32 * other.value as u32 % 503) as u16,
+            value: self.value.mul(other.value),
         }
     }
 
     fn neg(self) -> Square {
         Square {
-            value: power(self.value, 250),
+            value: self.value.pow(250),
         }
     }
 
     fn scale(self, s: Mod251) -> Square {
         Square {
-            value: power(self.value, s.value() as u8),
+            value: self.value.pow(s.value()),
         }
     }
 
-    fn same(self, other: Square) -> bool {
-        self.value == other.value
-    }
-
-    fn read(bytes: &[u8], at: usize) -> Result<Square, ByteFault> {
-        let Some(value) = bytes::number_at(bytes, at, Self::SIZE) else {
-            return Err(ByteFault::Ends(at));
-        };
-        let Some(element) = Square::new(value) else {
-            return Err(ByteFault::NotElement(at));
-        };
-        Ok(element)
+    fn decode(code: &[u8]) -> Option<Square> {
+        Square::new(bytes::number(code, Self::SIZE)?)
     }
 
     fn write(self, out: &mut [u8]) -> Result<usize, ByteFault> {
-        bytes::put(&self.value.to_be_bytes(), out)
+        Field::write(self.value, out)
     }
 
     fn scale_over_sum() {}

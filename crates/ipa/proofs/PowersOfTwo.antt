@@ -1,6 +1,6 @@
 -- Which numbers are powers of two. Assumes nothing.
 use Rattle.std.proofs.Common.{◌≡◌, ℕ, zero, suc, ◌*◌, ◌^◌, ◌<◌, ◌≤◌, true, false, eqb, sym, refl, ap, ◌∙◌, inl, inr, pow-suc, arith, pow_mono}
-use lib.Pow.{pow-lt}
+use Rattle.std.proofs.Math.Pow.{pow-lt}
 use Rattle.std.proofs.lemmas.Bool.{eq-eqb, ne_eqb, or_from, or_left, or_right, cases_order}
 use Rattle.ipa.specs.Claiming.{power_below}
 

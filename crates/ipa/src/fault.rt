@@ -2,7 +2,9 @@
 ghost use Rattle.std.specs.Prelude.{◌≡◌};
 ghost use Rattle.ipa.specs.Faults.{argument_entry};
 
-use algebra::fault::Layer;
+use algebra::entry::{Entry, Layer, Refusal};
+use std::error::Error;
+use std::fmt;
 
 #[derive(Clone, Copy, PartialEq, Eq, Debug)]
 pub enum Fault {
@@ -14,30 +16,31 @@ pub enum Fault {
     SmallSetup,
 }
 
-impl Fault {
-    pub fn number(self) -> u8
-        ensures { result ≡ (argument_entry self).number }
-    {
-        match self {
+impl Refusal for Fault {
+    ghost listed = { argument_entry };
+
+    fn entry(self) -> Entry {
+        let number = match self {
             Fault::Lengths => 20,
             Fault::NotPowerOfTwo => 21,
             Fault::SmallSetup => 22,
-        }
-    }
-
-    pub fn layer(self) -> Layer
-        ensures { result ≡ (argument_entry self).layer }
-    {
-        match self {
-            Fault::Lengths | Fault::NotPowerOfTwo | Fault::SmallSetup => Layer::Argument,
-        }
-    }
-
-    pub fn place(self) -> usize
-        ensures { result ≡ (argument_entry self).place }
-    {
-        match self {
-            Fault::Lengths | Fault::NotPowerOfTwo | Fault::SmallSetup => 0,
+        };
+        Entry {
+            number,
+            layer: Layer::Argument,
+            place: 0,
         }
     }
 }
+
+impl fmt::Display for Fault {
+    fn fmt<W: fmt::Write>(&self, f: &mut fmt::Formatter<W>) -> fmt::Result {
+        f.write_str(match self {
+            Fault::Lengths => "the two vectors differ in length",
+            Fault::NotPowerOfTwo => "the number of loads is not a power of two",
+            Fault::SmallSetup => "there are more loads than the setup has pairs",
+        })
+    }
+}
+
+impl Error for Fault {}

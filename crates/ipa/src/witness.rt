@@ -1,5 +1,5 @@
 // A witness: two vectors of one length, a power of two, and the claim that is true of them.
-ghost use Rattle.std.specs.Prelude.{◌≡◌, ◌^◌, ◌<◌, false, Some, None};
+ghost use Rattle.std.specs.Prelude.{◌≡◌, ◌^◌, ◌<◌, false, MatchOption};
 ghost use Rattle.ipa.specs.Claiming.{is_power_of_two, MakesClaim};
 
 use crate::fault::Fault;
@@ -11,12 +11,9 @@ use algebra::sums;
 
 // k where the number is 2^k.
 fn log2(n: usize) -> Option<u8>
-    ensures { elim result [ Some k ↦ (2 ^ k ≡ n) × (k < 64) | None ↦ is_power_of_two n ≡ false ] }
+    ensures { MatchOption result (is_power_of_two n ≡ false) (λ k. (2 ^ k ≡ n) × (k < 64)) }
 {
-    if n == 0 {
-        return None;
-    }
-    let k = n.ilog2();
+    let k = n.checked_ilog2()?;
     if 1usize << k != n {
         return None;
     }
@@ -30,14 +27,12 @@ pub fn new_with_claim<F: Field, G: Space<Scalar = F>>(
     b: &[F],
     y: F,
 ) -> Result<Claim<F, G>, Fault>
-    ensures { MakesClaim F.Field G.Space setup.now.elements.now a.now b.now y result }
+    ensures { MakesClaim F.Field.own G.Space.own setup.now.elements.now a.now b.now y result }
 {
     if a.len() != b.len() {
         return Err(Fault::Lengths);
     }
-    let Some(log_len) = log2(a.len()) else {
-        return Err(Fault::NotPowerOfTwo);
-    };
+    let log_len = log2(a.len()).ok_or(Fault::NotPowerOfTwo)?;
     if setup.count() < a.len() {
         return Err(Fault::SmallSetup);
     }

@@ -1,5 +1,5 @@
 -- The lemmas that the answers cite.
-pub mod Fronts
+pub mod Cuts
 pub mod Values
 pub mod Said
 pub mod Readings

@@ -1,49 +1,42 @@
--- A number read digit by digit. Assumes nothing.
-use Rattle.std.proofs.Common.{◌≡◌, ℕ, ◌+◌, ◌-◌, ◌*◌, ◌^◌, ◌<◌, ◌≤◌, true, false, cond, ◌&&◌, ltb, List, [], ◌∷◌, length, get_or, drop, Some, None, fold, Option, refl, ◌∙◌, arith}
+-- What a word of digits writes, in the words of std. Assumes nothing.
+use Rattle.std.proofs.Common.{◌≡◌, ℕ, ◌+◌, ◌-◌, ◌*◌, ◌^◌, ◌<◌, true, false, cond, ltb, List, [], ◌∷◌, length, Some, None, Ok, Err, Result, fold, refl, ap, sym, ◌&&◌, rules, arith, ◌∙◌}
 use Rattle.std.specs.Char.{is_ascii_digit}
-use Rattle.std.specs.Str.{all_ascii_digits}
-use Rattle.std.proofs.lemmas.List.{at_drop_more, at_drop_all}
-use Rattle.std.proofs.lemmas.Bool.{lt-ltb, le-ltb, and_right, cond-false}
-use Rattle.loads.specs.Numbers.{number_of}
+use Rattle.std.specs.Str.{all_ascii_digits, IsUtf8}
+use Rattle.std.specs.Str.Parse.{ParsesUnsigned}
+use Rattle.std.specs.Result.{result_ok}
+use Rattle.std.specs.List.{list_all}
+use Rattle.std.proofs.lemmas.Bool.{lt-ltb, le-ltb}
+use Rattle.std.proofs.lemmas.Fmt.{IsAscii-from_digits}
+use Rattle.std.proofs.lemmas.Str.{IsUtf8-from_ascii}
+use Rattle.std.proofs.lemmas.Str.Parse.{IsNumeralModel, numerals_by_fold, tells_all_ascii_digits, parse_digits}
+use Rattle.loads.specs.Numbers.{number_of, value_of}
 
--- the value that n has with the digits bs after it
-abbrev pub value_after : ℕ → List ℕ → ℕ
-value_after n bs = fold (λ m b. m * 10 + (b - 48)) n bs
+pub digits : (bs : List ℕ) → list_all is_ascii_digit bs ≡ all_ascii_digits bs
+digits [] = refl
+digits (b ∷ bs) = ap (λ d. is_ascii_digit b && d) (digits bs)
 
--- the number that n and the digits bs after it write
-unfoldable pub number_after : ℕ → List ℕ → Option ℕ
-number_after n bs = cond (all_ascii_digits bs && ltb (value_after n bs) (2 ^ 32)) (Some (value_after n bs)) None
+numerals : IsNumeralModel (λ bs. all_ascii_digits bs ≡ true) value_of
+numerals = numerals_by_fold _ tells_all_ascii_digits (λ n bs. fold (λ n b. n * 10 + (b - 48)) n bs) (search rules)
 
-pub from_none : (bs : List ℕ) → 0 < length bs → number_after 0 bs ≡ number_of bs
-unfolding number_after number_of
-from_none [] h = absurd (omega arith)
-from_none (b ∷ bs) h = refl
+pub not_digits : (bs : List ℕ) → all_ascii_digits bs ≡ false → None ≡ number_of bs
+unfolding number_of
+not_digits [] e = refl
+not_digits (b ∷ bs) e = rw e refl
 
--- more digits make no value less
-value_grows : (n : ℕ) (bs : List ℕ) → n ≤ value_after n bs
-value_grows n [] = omega arith
-value_grows n (b ∷ bs) = omega (arith, value_grows (n * 10 + (b - 48)) bs)
+pub digits_text : (bs : List ℕ) → all_ascii_digits bs ≡ true → IsUtf8 bs
+digits_text bs e = IsUtf8-from_ascii bs (IsAscii-from_digits bs (numerals.to bs e))
 
-too_large : (n : ℕ) (bs : List ℕ) → 2 ^ 32 ≤ n → number_after n bs ≡ None
-unfolding number_after
-too_large n bs h = cond-false _ _ _ (and_right (all_ascii_digits bs) _ (le-ltb (value_after n bs) (2 ^ 32) (omega (arith, value_grows n bs))))
+by_digits : (bs : List ℕ) → 0 < length bs → all_ascii_digits bs ≡ true → number_of bs ≡ cond (ltb (value_of bs) (2 ^ 32)) (Some (value_of bs)) None
+unfolding number_of
+by_digits [] h e = absurd (omega arith)
+by_digits (b ∷ bs) h e = rw e refl
 
--- the byte at i, where n was read of the bytes before it
-module _ (bs : List ℕ) (i n : ℕ) where
-  at_byte : i < length bs → number_after n (drop i bs) ≡ number_after n (get_or bs i 0 ∷ drop (i + 1) bs)
-  at_byte h = at_drop_more (number_after n) bs i 0 h
-
-  pub at_digit : i < length bs → is_ascii_digit (get_or bs i 0) ≡ true → number_after n (drop i bs) ≡ number_after (n * 10 + (get_or bs i 0 - 48)) (drop (i + 1) bs)
-  unfolding number_after
-  at_digit h e = at_byte h ∙ rw e refl
-
-  pub at_other : i < length bs → is_ascii_digit (get_or bs i 0) ≡ false → number_after n (drop i bs) ≡ None
-  unfolding number_after
-  at_other h e = at_byte h ∙ rw e refl
-
-  pub at_much : i < length bs → is_ascii_digit (get_or bs i 0) ≡ true → 2 ^ 32 ≤ n * 10 + (get_or bs i 0 - 48) → number_after n (drop i bs) ≡ None
-  at_much h e large = at_digit h e ∙ too_large _ _ large
-
-  pub at_end : length bs ≤ i → n < 2 ^ 32 → number_after n (drop i bs) ≡ Some n
-  unfolding number_after
-  at_end h small = at_drop_all (number_after n) bs i h ∙ rw (lt-ltb n (2 ^ 32) small) refl
+pub parsed : {E : Type 0} (bs text : List ℕ) (r : Result ℕ E) → all_ascii_digits bs ≡ true → text ≡ bs → ParsesUnsigned 32 10 text r → result_ok r ≡ number_of bs
+unfolding number_of
+parsed {E} bs text (Ok n) e same p =
+    let is = parse_digits numerals {E = E} 32 bs (Ok n) (rw same at p) e in
+    ap Some is.1 ∙ sym (by_digits bs is.0.0 e ∙ rw (lt-ltb (value_of bs) (2 ^ 32) is.0.1) refl)
+parsed [] text (Err r) e same p = refl
+parsed {E} (b ∷ bs) text (Err r) e same p =
+    let is_not = parse_digits numerals {E = E} 32 (b ∷ bs) (Err r) (rw same at p) e in
+    sym (by_digits (b ∷ bs) (omega arith) e ∙ rw (le-ltb (value_of (b ∷ bs)) (2 ^ 32) (grind (arith, is_not))) refl)

@@ -3,4 +3,4 @@ pub mod Pieces
 pub mod Numbers
 pub mod Lines
 pub mod Loads
-pub mod Cuts
+pub mod Faults

@@ -1,13 +1,11 @@
 -- What the reading of a text is. Assumes nothing.
-use Rattle.std.specs.Prelude.{◌≡◌, ℕ, ◌+◌, List, [], ◌∷◌, Ok, Err, vec_items, Result, Vec}
+use Rattle.std.specs.Prelude.{◌≡◌, ℕ, ◌+◌, List, [], ◌∷◌, Some, None, Ok, Err, vec_items, Result, Vec}
 use Rattle.std.specs.declared.alloc.Global.{Global}
 use Rattle.loads.specs.declared.Load.{Load}
 use Rattle.loads.specs.declared.LoadsFault.{LoadsFault}
 use Rattle.loads.specs.declared.LoadsFault.TheVariants as fault
-use Rattle.loads.specs.declared.line.Line.{Line}
-use Rattle.loads.specs.declared.line.Line.TheVariants as line
 use Rattle.loads.specs.Pieces.{lines_of}
-use Rattle.loads.specs.Lines.{line_of}
+use Rattle.loads.specs.Lines.{Line, line_of}
 
 -- the loads of a text, or the number and the bytes of its first malformed line
 pub data Reading : Type 0 where
@@ -21,9 +19,9 @@ with_load x (malformed n bs) = malformed n bs
 
 -- a reading with a line in front: the line's number and bytes, and what it says
 abbrev pub with_line : ℕ → List ℕ → Line → Reading → Reading
-with_line n bs line.Blank r = r
-with_line n bs (line.Load x) r = with_load x r
-with_line n bs line.Malformed r = malformed n bs
+with_line n bs (Ok None) r = r
+with_line n bs (Ok (Some x)) r = with_load x r
+with_line n bs (Err _) r = malformed n bs
 
 -- the reading of lines, the first of which has the number n
 unfoldable pub reading : ℕ → List (List ℕ) → Reading

@@ -1,5 +1,5 @@
 -- What the lines of a text are, and the words of a line. Assumes nothing.
-use Rattle.std.specs.Prelude.{ℕ, Bool, cond, ◌||◌, List, [], ◌∷◌, ◌==◌}
+use Rattle.std.specs.Prelude.{ℕ, Bool, if◌then◌else◌, ◌||◌, List, [], ◌∷◌, ◌==◌}
 
 -- the byte that ends a line
 abbrev pub newline : ℕ → Bool
@@ -17,7 +17,7 @@ grown b (p ∷ ps) = (b ∷ p) ∷ ps
 -- the pieces of some bytes: each byte that cuts ends one, and what follows the last cut is one more, unless it is empty
 unfoldable pub pieces : (ℕ → Bool) → List ℕ → List (List ℕ)
 pieces cuts [] = []
-pieces cuts (b ∷ bs) = cond (cuts b) ([] ∷ pieces cuts bs) (grown b (pieces cuts bs))
+pieces cuts (b ∷ bs) = if cuts b then [] ∷ pieces cuts bs else grown b (pieces cuts bs)
 
 -- the pieces that are not empty
 unfoldable pub filled : List (List ℕ) → List (List ℕ)

@@ -1,56 +1,43 @@
 // Reads a line: a load, nothing, or what is malformed.
 ghost use Rattle.std.specs.Prelude.{◌≡◌};
+ghost use Rattle.loads.specs.Pieces.{blank};
 ghost use Rattle.loads.specs.Numbers.{number_of};
-ghost use Rattle.loads.specs.Lines.{line_of, load_of};
+ghost use Rattle.loads.specs.Lines.{line_of};
 
 use crate::Load;
-use crate::cut::split_word;
+use std::str;
 
-// What a line says.
+// A line that is neither blank nor a load.
 #[derive(Clone, Copy)]
-pub enum Line {
-    Blank,
-    Load(Load),
-    Malformed,
+pub struct Malformed;
+
+fn is_blank(byte: &u8) -> bool
+    ensures { result ≡ blank byte.now }
+{
+    matches!(*byte, b' ' | b'\t' | b'\r')
 }
 
+// `parse` alone would take a sign too.
 fn number(word: &[u8]) -> Option<u32>
     ensures { result ≡ number_of word.now }
 {
-    if word.is_empty() {
+    if !word.iter().all(u8::is_ascii_digit) {
         return None;
     }
-    let mut value: u32 = 0;
-    for byte in word {
-        if !byte.is_ascii_digit() {
-            return None;
-        }
-        value = value.checked_mul(10)?.checked_add(u32::from(*byte - b'0'))?;
-    }
-    Some(value)
+    str::from_utf8(word).ok()?.parse().ok()
 }
 
-fn load_by(litres: Option<u32>, fat: Option<u32>) -> Line
-    ensures { result ≡ load_of litres fat }
-{
-    match (litres, fat) {
-        (Some(litres), Some(fat)) => Line::Load(Load { litres, fat }),
-        _ => Line::Malformed,
-    }
-}
-
-pub fn line_load(line: &[u8]) -> Line
+// The load of a line, or none where the line is blank.
+pub fn line_load(line: &[u8]) -> Result<Option<Load>, Malformed>
     ensures { result ≡ line_of line.now }
 {
-    let (litres, rest) = split_word(line);
-    let (fat, rest) = split_word(rest);
-    let (more, _) = split_word(rest);
-    if litres.is_empty() {
-        return Line::Blank;
+    let mut words = line.split(is_blank).filter(|word| !word.is_empty());
+    match (words.next(), words.next(), words.next()) {
+        (None, _, _) => Ok(None),
+        (Some(litres), Some(fat), None) => Ok(Some(Load {
+            litres: number(litres).ok_or(Malformed)?,
+            fat: number(fat).ok_or(Malformed)?,
+        })),
+        _ => Err(Malformed),
     }
-    if !more.is_empty() {
-        return Line::Malformed;
-    }
-    // A second word that is missing is no number.
-    load_by(number(litres), number(fat))
 }

@@ -41,6 +41,7 @@ fn malformed(rt: HostRuntime) -> Result<(), Fail> {
         (b"3 5\n4,9", 2, b"4,9"),
     ];
     for (text, number, bytes) in table {
+        // The refusal is what the case is about, so that `?` would end it.
         match read_loads(rt.alloc(), text) {
             Err(LoadsFault::Malformed { line, text }) => {
                 assert_eq!(rt; line, number);
@@ -49,6 +50,32 @@ fn malformed(rt: HostRuntime) -> Result<(), Fail> {
             Err(LoadsFault::Memory) => return Err(Fail::new("no memory")),
             Ok(read) => return Err(Fail::new(format_args!("read as {read:?}"))),
         }
+    }
+    Ok(())
+}
+
+#[test]
+fn printed(rt: HostRuntime) -> Result<(), Fail> {
+    let table: [(LoadsFault, &str); 3] = [
+        (
+            LoadsFault::Malformed {
+                line: 3,
+                text: b" 4 \r",
+            },
+            "line 3 is not `litres fat`:  4 \r",
+        ),
+        (
+            LoadsFault::Malformed {
+                line: 1,
+                text: b"Hello \xF0\x90\x80World",
+            },
+            "line 1 is not `litres fat`: Hello \u{FFFD}World",
+        ),
+        (LoadsFault::Memory, "there is no memory left"),
+    ];
+    for (fault, words) in table {
+        let text = fault.to_string(rt.alloc())?;
+        assert_eq!(rt; text.as_str(), words);
     }
     Ok(())
 }

@@ -1,6 +1,6 @@
 -- The field of 256 elements of FIPS 197: polynomials over the field of two elements, modulo x^8 + x^4 + x^3 + x + 1.
 -- Assumes nothing.
-use Rattle.std.specs.Prelude.{ℕ, zero, suc, ◌+◌, ◌*◌, ◌/◌, ◌%◌, Bool, true, false, cond, not, ◌&&◌, List, [], ◌∷◌, map, take, replicate, ◌==◌, slice_index_or}
+use Rattle.std.specs.Prelude.{ℕ, zero, suc, ◌+◌, ◌*◌, ◌/◌, ◌%◌, Bool, true, false, if◌then◌else◌, not, ◌&&◌, List, [], ◌∷◌, map, take, replicate, ◌==◌, slice_index_or}
 use Rattle.std.proofs.Common.{lit<}
 use Rattle.algebra.specs.Structures.{FieldOps}
 use Rattle.algebra.specs.Codec.{Codec}
@@ -47,7 +47,7 @@ bits (suc w) n = (n % 2 == 1) ∷ bits w (n / 2)
 
 abbrev pub number : List Bool → ℕ
 number [] = 0
-number (b ∷ p) = cond b 1 0 + number p * 2
+number (b ∷ p) = (if b then 1 else 0) + number p * 2
 
 -- An element is a number below 256: bit k is the coefficient of x^k.
 abbrev pub Byte : Type 0

@@ -1,13 +1,15 @@
--- The laws of the field of 256 elements, and its product as a program computes it. Assumes nothing.
-use Rattle.std.specs.Prelude.{◌≡◌, ℕ, zero, suc, ◌+◌, ◌-◌, ◌*◌, ◌/◌, ◌%◌, ◌^◌, ◌<◌, ◌≤◌, Bool, true, false, cond, List, [], ◌∷◌, length, ◌==◌, ◌≢◌, nat_eq, refl}
+-- The laws of the field of 256 elements and of its encoding, and its product as a program computes it. Assumes nothing.
+use Rattle.std.specs.Prelude.{◌≡◌, ℕ, zero, suc, ◌+◌, ◌-◌, ◌*◌, ◌/◌, ◌%◌, ◌^◌, ◌<◌, ◌≤◌, Bool, true, false, cond, List, [], ◌∷◌, length, ◌==◌, ◌≢◌, ◌↔◌, nat_eq, refl}
 use Rattle.std.proofs.Common.{sym, ap, ap₂, ◌∙◌, subst, mod-lt, mod-eq_of_lt, pow-suc, pos_of_ne-zero, arith, eqb→eq, lit<, lit≤}
 use Rattle.std.specs.Int.Bits.{bit_xor, xor_zero_r, xor_assoc}
 use Rattle.std.proofs.lemmas.Nat.{xor_shr, xor_mod, xor_lt}
-use Rattle.std.proofs.lemmas.Bool.{eq-eqb, ne_eqb}
+use Rattle.std.proofs.lemmas.Bool.{eqb-true, eq-eqb, ne_eqb}
 use Rattle.algebra.specs.Structures.{IsField}
-use Rattle.algebra.proofs.Residues.{by_value}
+use Rattle.algebra.specs.Codec.{IsCodec}
+use Rattle.algebra.proofs.BigEndian.{numbers_encode}
+use Rattle.algebra.proofs.Residues.{by_value, residue_numbers}
 use Rattle.algebra.proofs.Tested.{below}
-use Rattle.plant.specs.ByteField.{Byte, byte, xor, plus, scaled, product, times_x, remainder, bits, number, coefficients, sum, times, squares, inverse, byte_field}
+use Rattle.plant.specs.ByteField.{Byte, byte, xor, plus, scaled, product, times_x, remainder, bits, number, coefficients, sum, times, squares, inverse, byte_field, byte_codec}
 use Rattle.plant.specs.Polynomials.{plus_comm, plus_assoc, plus_self, act, act_x, act-plus, act-act, act_comm, length-act, remainder_product}
 
 -- Numbers and their bits
@@ -60,6 +62,9 @@ bits-xor (suc w) a b =
 
 pub byte_of : (n : ℕ) (x : Byte) → n ≡ x.value → byte n ≡ x
 byte_of n x e = by_value _ _ (ap (λ t. t % 256) e ∙ mod-eq_of_lt x.below)
+
+pub same_byte : (x y : Byte) → (nat_eq x.value y.value ≡ true) ↔ (x ≡ y)
+same_byte x y = (λ t. by_value x y (eqb-true x.value y.value t), λ e. eq-eqb x.value y.value (ap (λ (r : Byte). r.value) e))
 
 number-coefficients : (x : Byte) → number (coefficients x) ≡ x.value
 number-coefficients x = number-bits 8 x.value x.below
@@ -214,3 +219,6 @@ byte_laws = record {
   inv-zero = by_value _ _ (squares_quick 7 (byte 0));
   one-zero = λ e. let z : ◌≡◌ {A = ℕ} 1 0 = ap (λ r. r.value) e in omega arith;
 }
+
+pub byte_encodes : IsCodec byte_codec
+byte_encodes = numbers_encode 1 (λ (x : Byte). x.value) _ (residue_numbers 1 (lit≤ tt))

@@ -2,7 +2,8 @@
 use Rattle.std.specs.Prelude.{◌≡◌, ℕ, zero, suc, ◌≤◌, min, max, Bool, true, false, ◌&&◌, List, [], ◌∷◌, length, take, replicate, slice_index_or, refl}
 use Rattle.std.proofs.Common.{sym, ap, ap₂, ◌∙◌, arith, lit≤, length-take}
 use Rattle.std.proofs.Math.Nat.{zero-max, max-zero, suc-max-suc}
-use Rattle.std.proofs.lemmas.List.{length-map}
+use Rattle.std.proofs.Math.Bool.{and_comm, and_assoc, and-true, and-false}
+use Rattle.std.proofs.lemmas.List.{length-map, take-map}
 use Rattle.plant.specs.ByteField.{xor, plus, scaled, product, eighth, times_x, remainder}
 
 xor_comm : (a b : Bool) → xor a b ≡ xor b a
@@ -31,10 +32,6 @@ xor_and true true true = refl
 xor_and true true false = refl
 xor_and false true true = refl
 xor_and false true false = refl
-
-and_and : (a b c : Bool) → (a && (b && c)) ≡ ((a && b) && c)
-and_and true b c = refl
-and_and false b c = refl
 
 pub plus_comm : (p q : List Bool) → plus p q ≡ plus q p
 plus_comm [] [] = refl
@@ -78,7 +75,7 @@ scaled_xor a b (c ∷ p) = ap₂ (λ d s. d ∷ s) (xor_and a b c) (scaled_xor a
 
 scaled_and : (a b : Bool) (p : List Bool) → scaled a (scaled b p) ≡ scaled (a && b) p
 scaled_and a b [] = refl
-scaled_and a b (c ∷ p) = ap₂ (λ d s. d ∷ s) (and_and a b c) (scaled_and a b p)
+scaled_and a b (c ∷ p) = ap₂ (λ d s. d ∷ s) (sym (and_assoc a b c)) (scaled_and a b p)
 
 take_plus : (n : ℕ) (p q : List Bool) → take n (plus p q) ≡ plus (take n p) (take n q)
 take_plus zero p q = refl
@@ -97,21 +94,8 @@ get_or-plus (suc n) (a ∷ p) [] = refl
 get_or-plus zero (a ∷ p) (b ∷ q) = refl
 get_or-plus (suc n) (a ∷ p) (b ∷ q) = get_or-plus n p q
 
-take_scaled : (b : Bool) (n : ℕ) (p : List Bool) → take n (scaled b p) ≡ scaled b (take n p)
-take_scaled b zero p = refl
-take_scaled b (suc n) [] = refl
-take_scaled b (suc n) (a ∷ p) = ap (λ r. (b && a) ∷ r) (take_scaled b n p)
-
-and_true : (b : Bool) → (b && true) ≡ b
-and_true true = refl
-and_true false = refl
-
-and_false : (b : Bool) → (b && false) ≡ false
-and_false true = refl
-and_false false = refl
-
 get_or-scaled : (b : Bool) (n : ℕ) (p : List Bool) → slice_index_or (scaled b p) n false ≡ (b && slice_index_or p n false)
-get_or-scaled b n [] = sym (and_false b)
+get_or-scaled b n [] = sym (and-false b)
 get_or-scaled b zero (a ∷ p) = refl
 get_or-scaled b (suc n) (a ∷ p) = get_or-scaled b n p
 
@@ -130,16 +114,12 @@ x_plus p q =
 
 x_scaled : (b : Bool) (p : List Bool) → times_x (scaled b p) ≡ scaled b (times_x p)
 x_scaled b p =
-    ap₂ (λ r c. plus (false ∷ r) (scaled c eighth)) (take_scaled b 7 p) (get_or-scaled b 7 p)
-    ∙ ap₂ (λ a r. plus (a ∷ scaled b (take 7 p)) r) (sym (and_false b)) (sym (scaled_and b (slice_index_or p 7 false) eighth))
+    ap₂ (λ r c. plus (false ∷ r) (scaled c eighth)) (take-map (λ a. b && a) 7 p) (get_or-scaled b 7 p)
+    ∙ ap₂ (λ a r. plus (a ∷ scaled b (take 7 p)) r) (sym (and-false b)) (sym (scaled_and b (slice_index_or p 7 false) eighth))
     ∙ sym (scaled_plus b (false ∷ take 7 p) (scaled (slice_index_or p 7 false) eighth))
 
 x_linear : Linear times_x
 x_linear = record { adds = x_plus; scales = x_scaled; by_x = λ p. refl; zeros = refl }
-
-and_comm : (a b : Bool) → (a && b) ≡ (b && a)
-and_comm true b = sym (and_true b)
-and_comm false b = sym (and_false b)
 
 scaled_zeros : (b : Bool) → scaled b (replicate 8 false) ≡ replicate 8 false
 scaled_zeros true = refl
@@ -195,7 +175,7 @@ length-act (b ∷ p) v h =
 
 remainder_act : (p : List Bool) → remainder p ≡ act p (true ∷ [])
 remainder_act [] = refl
-remainder_act (b ∷ p) = ap₂ (λ a r. plus (a ∷ []) (times_x r)) (sym (and_true b)) (remainder_act p)
+remainder_act (b ∷ p) = ap₂ (λ a r. plus (a ∷ []) (times_x r)) (sym (and-true b)) (remainder_act p)
 
 length_remainder : (p : List Bool) → length (remainder p) ≡ 8
 length_remainder p = ap length (remainder_act p) ∙ length-act p (true ∷ []) (lit≤ tt)

@@ -1,6 +1,6 @@
 -- Rows of four elements of a field: sums and multiples by place, and their bytes. Assumes nothing.
-use Rattle.std.specs.Prelude.{◌+◌, ◌*◌, ◌++◌, take, drop}
-use Rattle.std.proofs.Math.Option.{Option, none, some}
+use Rattle.std.specs.Prelude.{◌+◌, ◌*◌, ◌++◌, take, drop, option_map}
+use Rattle.std.specs.Option.{option_zip}
 use Rattle.algebra.specs.Structures.{FieldOps, GroupOps}
 use Rattle.algebra.specs.Codec.{Codec}
 use Rattle.plant.specs.declared.row.Row.{Row}
@@ -30,32 +30,22 @@ rows K = record {
 abbrev pub scale_row : {E : Type 0} → FieldOps E → E → RowOf E → RowOf E
 scale_row K s r = row_of (K.mul s r.w) (K.mul s r.x) (K.mul s r.y) (K.mul s r.z)
 
--- Two elements, where there are both.
-abbrev pub both : {X Y : Type 0} → Option X → Option Y → Option (X × Y)
-both none o = none
-both (some x) none = none
-both (some x) (some y) = some (x, y)
-
 -- Two codes, one behind the other.
 abbrev pub joined : {X Y : Type 0} → Codec X → Codec Y → Codec (X × Y)
 joined c d = record {
   size = c.size + d.size;
   encode = λ p. c.encode p.0 ++ d.encode p.1;
-  decode = λ bytes. both (c.decode (take c.size bytes)) (d.decode (drop c.size bytes));
+  decode = λ bytes. option_zip (c.decode (take c.size bytes)) (d.decode (drop c.size bytes));
 }
 
 -- Four codes, one behind the other: two pairs.
 abbrev pub four : {E : Type 0} → Codec E → Codec ((E × E) × (E × E))
 four c = joined (joined c c) (joined c c)
 
-abbrev pub row_from : {E : Type 0} → Option ((E × E) × (E × E)) → Option (RowOf E)
-row_from none = none
-row_from (some p) = some (row_of p.0.0 p.0.1 p.1.0 p.1.1)
-
 -- The numbers of a row in order.
 abbrev pub row_codec : {E : Type 0} → Codec E → Codec (RowOf E)
 row_codec c = record {
   size = 4 * c.size;
   encode = λ r. (four c).encode ((r.w, r.x), (r.y, r.z));
-  decode = λ bytes. row_from ((four c).decode bytes);
+  decode = λ bytes. option_map (λ ((w, x), (y, z)). row_of w x y z) ((four c).decode bytes);
 }

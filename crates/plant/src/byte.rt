@@ -1,22 +1,34 @@
 // The field of 256 elements of FIPS 197, in one byte.
-ghost use Rattle.std.specs.Prelude.{◌≡◌, ◌%◌, refl};
-ghost use Rattle.std.proofs.Common.{lit≤};
-ghost use Rattle.algebra.proofs.BigEndian.{numbers_encode};
-ghost use Rattle.algebra.proofs.Residues.{residue_numbers};
+ghost use Rattle.std.specs.Prelude.{◌≡◌, ◌<◌, refl};
+ghost use Rattle.std.proofs.Common.{lit≤, mod-eq_of_lt};
 ghost use Rattle.plant.specs.ByteField.{Byte as Element, byte, byte_field, byte_codec, times};
-ghost use Rattle.plant.specs.ByteLaws.{byte_of, byte_laws};
+ghost use Rattle.plant.specs.ByteLaws.{byte_encodes, byte_laws, same_byte};
 
 use algebra::bytes;
 use algebra::fault::ByteFault;
 use algebra::field::{Draw, Field};
+use std::marker::Model;
 
 // Bit k is the coefficient of x^k.
-#[derive(Clone, Copy)]
+#[derive(Clone, Copy, PartialEq, Eq)]
 pub struct Byte {
     value: u8,
 }
 
+impl Model for Byte {
+    ghost Value = { Element };
+
+    ghost view = { λ x. byte x.value };
+
+    ghost invariant = { λ x. x.value < 256 };
+
+    ghost inverse = { λ e. record { value = e.value } };
+
+    ghost inverse_ok = { λ x h i. record { value = mod-eq_of_lt h i } };
+}
+
 impl Byte {
+    // As in the other fields, and no `From`: so elements of all are made and shown by the same two names.
     pub fn new(value: u8) -> Byte
         ensures { result.value ≡ value }
     {
@@ -37,47 +49,32 @@ fn times_x(a: u8) -> u8
     (a << 1) ^ ((a >> 7) * 0x1b)
 }
 
-// The sum of b x^k over the bits k of a.
-fn product(a: u8, b: u8) -> u8
-    ensures { result ≡ (times (byte a) (byte b)).value }
-{
-    let mut left = a;
-    let mut shifted = b;
-    let mut sum = 0;
-    for _ in 0..8u32 {
-        if left % 2 == 1 {
-            sum ^= shifted;
-        }
-        left /= 2;
-        shifted = times_x(shifted);
-    }
-    sum
-}
-
 impl Field for Byte {
     const SIZE: usize = 1;
 
+    ghost SIZE = { 1 };
+
     ghost Elem = { Element };
 
-    ghost means = { λ x. byte x.value };
+    ghost means = { λ x. x };
 
-    ghost pick = { λ e. record { value = e.value } };
+    ghost pick = { λ x. x };
 
     ghost field = { byte_field };
 
     ghost codec = { byte_codec };
 
-    ghost picked = { λ x. byte_of x.value x refl };
+    ghost equal = { same_byte };
+
+    ghost picked = { λ x. refl };
 
     ghost lawful = { byte_laws };
 
-    ghost encodes = { numbers_encode 1 (λ (x : Element). x.value) _ (residue_numbers 1 (lit≤ tt)) };
+    ghost encodes = { byte_encodes };
+
+    ghost measured = { refl };
 
     ghost sized = { (lit≤ tt, lit≤ tt) };
-
-    fn width() -> usize {
-        Self::SIZE
-    }
 
     fn zero() -> Byte {
         Byte { value: 0 }
@@ -93,37 +90,42 @@ impl Field for Byte {
         }
     }
 
+    // The sum of `other` times x^k over the bits k of `self`.
     fn mul(self, other: Byte) -> Byte {
-        Byte {
-            value: product(self.value, other.value),
+        let mut left = self.value;
+        let mut shifted = other.value;
+        let mut sum = 0;
+        for _ in 0..8u32 {
+            if left % 2 == 1 {
+                sum ^= shifted;
+            }
+            left /= 2;
+            shifted = times_x(shifted);
         }
+        Byte { value: sum }
     }
 
     // Each element is its own opposite.
     fn neg(self) -> Byte {
-        Byte { value: self.value }
+        self
     }
 
     // x^2 x^4 .. x^128
     fn inv(self) -> Byte {
-        let mut square = self.value;
-        let mut inverse = 1;
+        let mut square = self;
+        let mut inverse = Byte::one();
         for _ in 0..7u32 {
-            square = product(square, square);
-            inverse = product(inverse, square);
+            square = square.mul(square);
+            inverse = inverse.mul(square);
         }
-        Byte { value: inverse }
+        inverse
     }
 
-    fn same(self, other: Byte) -> bool {
-        other.value == self.value
-    }
-
-    fn read(bytes: &[u8], at: usize) -> Result<Byte, ByteFault> {
-        let Some(value) = bytes::number_at(bytes, at, Self::SIZE) else {
-            return Err(ByteFault::Ends(at));
+    fn decode(code: &[u8]) -> Option<Byte> {
+        let [value] = code else {
+            return None;
         };
-        Ok(Byte { value: value as u8 })
+        Some(Byte { value: *value })
     }
 
     fn write(self, out: &mut [u8]) -> Result<usize, ByteFault> {
@@ -132,7 +134,7 @@ impl Field for Byte {
 }
 
 impl Draw for Byte {
-    ghost drawn = { λ v. record { value = v % 256 } };
+    ghost drawn = { byte };
 
     fn draw(v: u64) -> Byte {
         Byte {

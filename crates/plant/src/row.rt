@@ -1,13 +1,14 @@
 // Rows of four numbers over any field, by place, written in order.
+ghost use Rattle.std.specs.Prelude.{◌≡◌, ◌*◌, option_map};
 ghost use Rattle.std.proofs.Common.{rules};
-ghost use Rattle.plant.specs.Rows.{RowOf, row_meant, rows, scale_row, row_codec};
-ghost use Rattle.plant.specs.RowBytes.{row_encodes};
+ghost use Rattle.plant.specs.Rows.{RowOf, row_meant, rows, scale_row, row_codec, joined};
+ghost use Rattle.plant.specs.RowBytes.{row_encodes, row_equal};
 
 use algebra::fault::ByteFault;
 use algebra::field::Field;
 use algebra::space::Space;
 
-#[derive(Clone, Copy)]
+#[derive(Clone, Copy, PartialEq, Eq)]
 pub struct Row<F> {
     pub w: F,
     pub x: F,
@@ -15,11 +16,20 @@ pub struct Row<F> {
     pub z: F,
 }
 
+// The two elements whose encodings the bytes are, one behind the other.
+fn pair<F: Field>(code: &[u8]) -> Option<(F, F)>
+    ensures { option_map (λ (x, y). (F.Field.means x, F.Field.means y)) result ≡ (joined F.Field.codec F.Field.codec).decode code.now }
+{
+    let (first, second) = code.split_at_checked(F::SIZE)?;
+    Some((F::decode(first)?, F::decode(second)?))
+}
+
 impl<F: Field> Space for Row<F> {
     type Scalar = F;
 
-    // Nothing that is proved bounds `F::SIZE`; it is at most 64, so that this does not wrap.
-    const SIZE: usize = F::SIZE.wrapping_mul(4);
+    const SIZE: usize = 4 * F::SIZE;
+
+    ghost SIZE = { 4 * F.Field.SIZE };
 
     ghost Elem = { RowOf F.Field.Elem };
 
@@ -31,15 +41,15 @@ impl<F: Field> Space for Row<F> {
 
     ghost codec = { row_codec F.Field.codec };
 
+    ghost equal = { row_equal F.eq F.Field.means F.Field.equal };
+
     ghost lawful = { Prim.search rules };
 
     ghost encodes = { row_encodes F.Field.codec F.Field.encodes };
 
-    ghost sized = { Prim.search rules };
+    ghost measured = { Prim.search rules };
 
-    fn width() -> usize {
-        4 * F::width()
-    }
+    ghost sized = { Prim.search rules };
 
     fn zero() -> Row<F> {
         Row {
@@ -77,46 +87,23 @@ impl<F: Field> Space for Row<F> {
         }
     }
 
-    fn same(self, other: Row<F>) -> bool {
-        self.w.same(other.w) && self.x.same(other.x) && self.y.same(other.y) && self.z.same(other.z)
-    }
-
-    // A fault is of the row, whichever number is refused.
-    fn read(bytes: &[u8], at: usize) -> Result<Row<F>, ByteFault> {
-        let left = bytes.len().saturating_sub(at);
-        if left < Self::width() {
-            return Err(ByteFault::Ends(at));
-        }
-        let n = F::width();
-        let Ok(w) = F::read(bytes, at) else {
-            return Err(ByteFault::NotElement(at));
-        };
-        let x_at = at + n;
-        let Ok(x) = F::read(bytes, x_at) else {
-            return Err(ByteFault::NotElement(at));
-        };
-        let y_at = x_at + n;
-        let Ok(y) = F::read(bytes, y_at) else {
-            return Err(ByteFault::NotElement(at));
-        };
-        let z_at = y_at + n;
-        let Ok(z) = F::read(bytes, z_at) else {
-            return Err(ByteFault::NotElement(at));
-        };
-        Ok(Row { w, x, y, z })
+    fn decode(code: &[u8]) -> Option<Row<F>> {
+        let (front, back) = code.split_at_checked(2 * F::SIZE)?;
+        let (w, x) = pair(front)?;
+        let (y, z) = pair(back)?;
+        Some(Row { w, x, y, z })
     }
 
     fn write(self, out: &mut [u8]) -> Result<usize, ByteFault> {
-        let n = F::width();
-        if out.len() < 4 * n {
+        // With room for all four, none of them is refused.
+        if out.len() < Self::SIZE {
             return Err(ByteFault::Output);
         }
-        // There is room for all, so that no number is refused.
-        let _ = self.w.write(out);
-        let _ = self.x.write(&mut out[n..]);
-        let _ = self.y.write(&mut out[n + n..]);
-        let _ = self.z.write(&mut out[n + n + n..]);
-        Ok(4 * n)
+        let mut at = 0;
+        for number in [&self.w, &self.x, &self.y, &self.z] {
+            at += number.write(&mut out[at..])?;
+        }
+        Ok(at)
     }
 
     fn scale_over_sum() {}

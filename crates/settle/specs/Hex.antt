@@ -1,8 +1,8 @@
 -- Bytes as text: two hexadecimal digits each, a space between. Assumes nothing.
-use Rattle.std.specs.Prelude.{ℕ, ◌+◌, ◌/◌, ◌%◌, cond, List, [], ◌∷◌, nat_lt}
+use Rattle.std.specs.Prelude.{ℕ, ◌+◌, ◌/◌, ◌%◌, if◌then◌else◌, List, [], ◌∷◌, nat_lt}
 
 abbrev pub hex_digit : ℕ → ℕ
-hex_digit n = cond (nat_lt n 10) (48 + n) (87 + n)
+hex_digit n = if nat_lt n 10 then 48 + n else 87 + n
 
 -- Each byte with a space before it.
 abbrev pub spaced : List ℕ → List ℕ

@@ -3,16 +3,18 @@ ghost use Rattle.std.specs.Prelude.{◌≡◌, ℕ};
 ghost use Rattle.settle.specs.declared.day.DayFault.TheVariants.{Claim as Declined, Memory};
 ghost use Rattle.settle.specs.Day.{total_of, Converts, Settles};
 
+use crate::stop::refused;
 use algebra::claim::Claim;
 use algebra::setup::Setup;
-use bench::mod251::Mod251;
 use bench::squares::Square;
 use ipa::fault::Fault;
 use ipa::witness::new_with_claim;
 use loads::Load;
+use modular::mod251::Mod251;
 use std::alloc::{AllocFailed, Global};
+use std::fmt;
 
-// The litres and the fat points of the loads, in their order.
+// The litres and the fat points of the loads, in their order: two vectors, since the argument takes two.
 #[derive(Drop)]
 pub struct Vectors {
     pub litres: Vec<Mod251>,
@@ -28,6 +30,19 @@ pub enum DayFault {
     Claim(Fault),
     // There was no memory for the vectors.
     Memory,
+}
+
+impl fmt::Display for DayFault {
+    fn fmt<W: fmt::Write>(&self, f: &mut fmt::Formatter<W>) -> fmt::Result {
+        match self {
+            DayFault::Beyond(load) => write!(
+                f,
+                "load {load} has a number above 250, the highest at the bench"
+            ),
+            DayFault::Claim(fault) => refused(fault, f),
+            DayFault::Memory => write!(f, "there is no memory left"),
+        }
+    }
 }
 
 impl<T: Drop> From<AllocFailed<T>> for DayFault {
@@ -50,11 +65,10 @@ impl From<Fault> for DayFault {
 pub fn total(loads: &[Load]) -> u128
     ensures { result ≡ total_of loads.now }
 {
-    let mut sum = 0u128;
-    for load in loads {
-        sum += load.litres as u128 * load.fat as u128;
-    }
-    sum
+    loads
+        .iter()
+        .map(|load| u128::from(load.litres) * u128::from(load.fat))
+        .sum()
 }
 
 pub fn convert(heap: Global, loads: &[Load]) -> Result<Vectors, DayFault>
@@ -63,14 +77,9 @@ pub fn convert(heap: Global, loads: &[Load]) -> Result<Vectors, DayFault>
     let mut litres = Vec::new(heap);
     let mut fat = Vec::new(heap);
     for (i, load) in loads.iter().enumerate() {
-        let Some(x) = Mod251::new(load.litres as u64) else {
-            return Err(DayFault::Beyond(i + 1));
-        };
-        let Some(y) = Mod251::new(load.fat as u64) else {
-            return Err(DayFault::Beyond(i + 1));
-        };
-        litres.push(x)?;
-        fat.push(y)?;
+        let beyond = DayFault::Beyond(i + 1);
+        litres.push(Mod251::new(u64::from(load.litres)).ok_or(beyond)?)?;
+        fat.push(Mod251::new(u64::from(load.fat)).ok_or(beyond)?)?;
     }
     Ok(Vectors { litres, fat })
 }

@@ -7,9 +7,9 @@ use crate::hex::hex;
 use crate::stop::Stop;
 use algebra::field::Draw;
 use algebra::setup::Setup;
-use bench::mod251::Mod251;
 use bench::squares::setup::bench_elements;
-use loads::{Load, LoadsFault, read_loads};
+use loads::{Load, read_loads};
+use modular::mod251::Mod251;
 use std::process::ExitCode;
 use std::{env, fs};
 
@@ -25,9 +25,10 @@ const DAY: &str = "12 41\n9 38\n15 44\n7 40\n";
 const Y: u64 = 3;
 
 // The file that the program is given, or the built-in day.
-fn input(rt: &HostRuntime) -> Result<Vec<u8>, Stop> {
+fn input(rt: &HostRuntime) -> Result<Vec<u8>, Stop<'static>> {
     let mut args = env::args(rt)?;
     let _ = args.next();
+    // No path is no error, so that there is nothing to hand on with `?`.
     let Some(path) = args.next() else {
         return Ok(DAY.as_bytes().to_vec(rt.alloc())?);
     };
@@ -37,25 +38,13 @@ fn input(rt: &HostRuntime) -> Result<Vec<u8>, Stop> {
     Ok(fs::read(rt, path.as_str())?)
 }
 
-fn loads_of(rt: &HostRuntime, text: &[u8]) -> Result<Vec<Load>, Stop> {
-    let heap = rt.alloc();
-    match read_loads(heap, text) {
-        Ok(loads) => Ok(loads),
-        Err(LoadsFault::Memory) => Err(Stop::Memory),
-        Err(LoadsFault::Malformed { line, text }) => Err(Stop::Malformed {
-            line,
-            text: String::from_utf8_lossy(heap, text)?,
-        }),
-    }
-}
-
-fn settle(rt: &HostRuntime, loads: &[Load]) -> Result<(), Stop> {
+fn settle(rt: &HostRuntime, loads: &[Load]) -> Result<(), Stop<'static>> {
     let heap = rt.alloc();
     let row = bench_elements();
     let setup = Setup::new(&row)?;
     let claim = claim_day(heap, &setup, loads, Mod251::draw(Y))?;
-    let bytes = claim_bytes(claim);
-    if !reads_back(&bytes, claim) {
+    let bytes = claim_bytes(&claim);
+    if !reads_back(&bytes, &claim) {
         return Err(Stop::Differs);
     }
     let sum = total(loads);
@@ -71,9 +60,8 @@ fn settle(rt: &HostRuntime, loads: &[Load]) -> Result<(), Stop> {
     Ok(())
 }
 
-fn run(rt: &HostRuntime) -> Result<(), Stop> {
-    let text = input(rt)?;
-    let loads = loads_of(rt, text.as_slice())?;
+fn run<'a>(rt: &HostRuntime, text: &'a [u8]) -> Result<(), Stop<'a>> {
+    let loads = read_loads(rt.alloc(), text)?;
     for load in loads.iter() {
         let litres = load.litres;
         let fat = load.fat;
@@ -83,12 +71,19 @@ fn run(rt: &HostRuntime) -> Result<(), Stop> {
 }
 
 // A stop is told once, in words of its own, and ends the program with status 1.
+fn told(rt: &HostRuntime, stop: &Stop) -> ExitCode {
+    let _ = eprintln!(rt; "settle: {stop}");
+    ExitCode::FAILURE
+}
+
 fn main(rt: HostRuntime) -> ExitCode {
-    match run(&rt) {
+    // By `match` and not in one chain: a stop of `run` borrows the text, which has to outlive it.
+    let text = match input(&rt) {
+        Ok(text) => text,
+        Err(stop) => return told(&rt, &stop),
+    };
+    match run(&rt, text.as_slice()) {
         Ok(()) => ExitCode::SUCCESS,
-        Err(stop) => {
-            let _ = eprintln!(rt; "settle: {stop}");
-            ExitCode::FAILURE
-        }
+        Err(stop) => told(&rt, &stop),
     }
 }

@@ -2,9 +2,9 @@
 use Rattle.std.specs.Prelude.{◌≡◌, List, [], ◌∷◌, map, take, refl}
 use Rattle.std.proofs.Common.{lit<}
 use Rattle.algebra.specs.Modular.{residue}
-use Rattle.bench.specs.Mod251.{Mod251, field251, codec251}
+use Rattle.modular.specs.Mod251.{Mod251, field251, codec251}
+use Rattle.modular.specs.Mod65537.{Mod65537, field65537}
 use Rattle.bench.specs.Squares.{Square, square, squares, power, codec503}
-use Rattle.plant.specs.Mod65537.{Mod65537, field65537}
 use Rattle.plant.specs.ByteField.{byte, byte_field}
 use Rattle.algebra.specs.Structures.{over_itself}
 use Rattle.algebra.specs.Sums.{dot}

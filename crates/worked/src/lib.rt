@@ -14,7 +14,6 @@ pub fn worked_cases() -> u64
     ensures value { result ≡ 332 }
     ensures cases { WorkedCases }
 {
-    let row = bench_elements();
-    let last = row.len() - 1;
-    row[last].value()
+    let [.., last] = bench_elements();
+    last.value()
 }

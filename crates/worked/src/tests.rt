@@ -2,38 +2,38 @@
 use algebra::claim::Claim;
 use algebra::fault::ByteFault;
 use algebra::field::Field;
+use algebra::reader::Reader;
 use algebra::setup::Setup;
 use algebra::space::Space;
-use bench::mod251::Mod251;
 use bench::squares::Square;
 use bench::squares::setup::bench_elements;
 use ipa::fault::Fault;
 use ipa::witness::new_with_claim;
+use modular::number::Modular;
 use std::test::Fail;
 
 mod counts;
 mod fields;
 mod records;
 
-fn number(n: u64) -> Result<Mod251, Fail> {
-    match Mod251::new(n) {
-        Some(x) => Ok(x),
-        None => Err(Fail::new("no number below 251")),
-    }
+fn number<const P: u32>(n: u64) -> Result<Modular<P>, Fail> {
+    Modular::new(n).ok_or_else(|| Fail::new("no number of the field"))
 }
 
 fn element(n: u64) -> Result<Square, Fail> {
-    match Square::new(n) {
-        Some(x) => Ok(x),
-        None => Err(Fail::new("no square modulo 503")),
-    }
+    Square::new(n).ok_or_else(|| Fail::new("no square modulo 503"))
+}
+
+// The element whose bytes begin at the offset; the tables have both, as they would be seen on the wire.
+fn read_at<G: Space>(bytes: &[u8], at: usize) -> Result<G, ByteFault> {
+    Reader::new(bytes, at).element()
 }
 
 #[test]
 fn inverses(rt: HostRuntime) -> Result<(), Fail> {
     let table = [(2, 126), (250, 250), (0, 0)];
     for (n, inverse) in table {
-        assert_eq!(rt; number(n)?.inv().value(), inverse);
+        assert_eq!(rt; number::<251>(n)?.inv().value(), inverse);
     }
     Ok(())
 }
@@ -53,10 +53,7 @@ fn squares(rt: HostRuntime) -> Result<(), Fail> {
         (&[0, 4, 9], Ok(4)),
     ];
     for (bytes, expected) in table {
-        match Square::read(bytes, 0) {
-            Ok(read) => assert_eq!(rt; Ok(read.value()), expected),
-            Err(fault) => assert_eq!(rt; Err(fault), expected),
-        }
+        assert_eq!(rt; read_at(bytes, 0).map(Square::value), expected);
     }
     Ok(())
 }
@@ -72,7 +69,7 @@ fn claims(rt: HostRuntime) -> Result<(), Fail> {
     let mut out = [9u8; 6];
     assert_eq!(rt; claim.write(&mut out), Ok(5));
     assert_eq!(rt; out, [0x00, 0x61, 0x0f, 0x01, 0x00, 9]);
-    assert_eq!(rt; claim.write(&mut out[0..4]), Err(ByteFault::Output));
+    assert_eq!(rt; claim.write(&mut out[..4]), Err(ByteFault::Output));
     Ok(())
 }
 
@@ -104,10 +101,8 @@ fn witnesses(rt: HostRuntime) -> Result<(), Fail> {
     ];
     for (len_a, len_b, expected) in table {
         assert!(rt; len_a <= 64 && len_b <= 64);
-        match new_with_claim(&setup, &vector[0..len_a], &vector[0..len_b], number(3)?) {
-            Ok(claim) => assert_eq!(rt; Ok(claim.log_len), expected),
-            Err(fault) => assert_eq!(rt; Err(fault), expected),
-        }
+        let claim = new_with_claim(&setup, &vector[..len_a], &vector[..len_b], number(3)?);
+        assert_eq!(rt; claim.map(|claim| claim.log_len), expected);
     }
     Ok(())
 }

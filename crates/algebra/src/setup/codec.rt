@@ -4,6 +4,7 @@ ghost use Rattle.algebra.specs.Setups.{count as pairs};
 ghost use Rattle.algebra.specs.SetupCode.{setup_size, WritesSetup, ReadsSetup};
 
 use crate::fault::ByteFault;
+use crate::reader::Reader;
 use crate::run::Order;
 use crate::setup::Setup;
 use crate::space::Space;
@@ -18,7 +19,7 @@ impl<'a, G: Space> Setup<'a, G> {
         ensures { result ≡ setup_size G.Space.codec (pairs self.now.elements.now) }
     {
         let n = self.count();
-        G::width() + varint::size(n as u64) + 2 * n * G::width()
+        G::SIZE + varint::size(n as u64) + 2 * n * G::SIZE
     }
 
     // Writes the setup to the front of the output, and answers its length.
@@ -31,9 +32,9 @@ impl<'a, G: Space> Setup<'a, G> {
         if out.len() < size {
             return Err(ByteFault::Output);
         }
-        // There is room for all, so that no part is refused.
+        // There is room for all, so that no part is refused; a refusal of writing has no place, so that no writer keeps one.
         let _ = q.write(out);
-        let count_at = G::width();
+        let count_at = G::SIZE;
         let _ = varint::write(n as u64, &mut out[count_at..]);
         let pairs_at = count_at + varint::size(n as u64);
         let _ = run::write_run(self.elements, 2 * n, Order::Halves(n), &mut out[pairs_at..]);
@@ -44,10 +45,10 @@ impl<'a, G: Space> Setup<'a, G> {
     pub fn read(bytes: &[u8], highest: usize, area: &mut [G]) -> Result<(usize, usize), ByteFault>
         ensures { ReadsSetup G.Space.codec G.Space.means highest bytes.now area.old area.new result }
     {
-        let q = G::read(bytes, 0)?;
-        let count_at = G::width();
-        let count = varint::read(bytes, count_at)?;
-        let n = count.0 as usize;
+        let mut input = Reader::new(bytes, 0);
+        let q = input.element()?;
+        let count_at = input.at();
+        let n = varint::read(&mut input)? as usize;
         if n > highest.min(MOST_PAIRS) {
             return Err(ByteFault::TooMany(count_at));
         }
@@ -55,7 +56,7 @@ impl<'a, G: Space> Setup<'a, G> {
             return Err(ByteFault::Area(count_at));
         }
         area[2 * n] = q;
-        let end = run::read_run(bytes, count_at + count.1, 2 * n, Order::Halves(n), area)?;
-        Ok((n, end))
+        run::read_run(&mut input, 2 * n, Order::Halves(n), area)?;
+        Ok((n, input.at()))
     }
 }

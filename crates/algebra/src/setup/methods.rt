@@ -1,5 +1,5 @@
 // Making a setup, and its parts.
-ghost use Rattle.std.specs.Prelude.{◌≡◌, ◌^◌, Ok, Err, nat_le};
+ghost use Rattle.std.specs.Prelude.{◌≡◌, ◌^◌, MatchResult, nat_le};
 ghost use Rattle.algebra.specs.declared.fault.SetupFault.{SetupFault};
 ghost use Rattle.algebra.specs.Setups.{IsSetup, count as pairs, g_part, h_part, q_part, Pair};
 
@@ -11,10 +11,7 @@ const LONGEST: usize = 2097153;
 
 impl<'a, G: Copy> Setup<'a, G> {
     pub fn new(elements: &'a [G]) -> Result<Setup<'a, G>, SetupFault>
-        ensures { elim result [
-          | Ok s ↦ IsSetup elements.now × (s.elements.now ≡ elements.now)
-          | Err e ↦ (IsSetup elements.now → ⊥) × (e ≡ SetupFault.Row)
-        ] }
+        ensures { MatchResult result (λ s. IsSetup elements.now × (s.elements.now ≡ elements.now)) (λ e. (IsSetup elements.now → ⊥) × (e ≡ SetupFault.Row)) }
     {
         if elements.len() % 2 == 0 || elements.len() > LONGEST {
             return Err(SetupFault::Row);
@@ -33,14 +30,10 @@ impl<'a, G: Copy> Setup<'a, G> {
     pub fn pair(&self, i: usize) -> Option<(G, G)>
         ensures { Pair self.now.elements.now i result }
     {
-        let n = self.count();
-        if i >= n {
-            return None;
-        }
-        Some((self.elements[i], self.elements[n + i]))
+        Some((*self.g().get(i)?, *self.h().get(i)?))
     }
 
-    // All of the G_i.
+    // All of the G_i. The two parts of one row, each by its name in the argument: one method over a half would say less.
     pub fn g(&self) -> &'a [G]
         ensures { result.now ≡ g_part self.now.elements.now }
     {

@@ -1,18 +1,24 @@
 // The setup for the bench: the squares of 2 to 66.
-ghost use Rattle.std.specs.Prelude.{◌≡◌, map};
-ghost use Rattle.bench.specs.declared.squares.Square.{Square as Value};
-ghost use Rattle.bench.specs.Bench.{bench_values};
+ghost use Rattle.std.specs.Prelude.{◌≡◌, ◌<◌, map};
+ghost use Rattle.bench.specs.Squares.{Square as Element};
+ghost use Rattle.bench.specs.Bench.{bench_value, bench_values};
 
 use crate::squares::Square;
+use algebra::field::Draw;
+use modular::mod503::Mod503;
+use std::array;
 
 pub fn bench_elements() -> [Square; 65]
-    ensures { map (λ (x : Value). x.value) result ≡ bench_values }
+    ensures { map (λ (x : Element). x.value) result ≡ bench_values }
 {
-    let mut row = [Square { value: 1 }; 65];
-    for k in 0..65usize {
-        row[k] = Square {
-            value: ((k + 2) * (k + 2) % 503) as u16,
-        };
-    }
-    row
+    array::from_fn(
+        |k: usize| -> Square
+            requires { k < 65 }
+            ensures { result.value ≡ bench_value k }
+        {
+            Square {
+                value: Mod503::draw(((k + 2) * (k + 2)) as u64),
+            }
+        },
+    )
 }

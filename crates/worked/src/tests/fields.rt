@@ -1,43 +1,15 @@
 // Numbers, elements and rows: what is read back, what is refused, and worked facts of the fields.
-use crate::tests::element;
+use crate::tests::{element, number, read_at};
 use algebra::fault::ByteFault;
 use algebra::field::{Draw, Field};
 use algebra::space::Space;
-use bench::mod251::Mod251;
 use bench::squares::Square;
+use modular::mod251::Mod251;
+use modular::mod65537::Mod65537;
 use plant::byte::Byte;
-use plant::mod65537::Mod65537;
 use plant::row::Row;
 use std::process::Abort;
 use std::test::Fail;
-
-fn square_at(bytes: &[u8], at: usize) -> Result<u64, ByteFault> {
-    Ok(Square::read(bytes, at)?.value())
-}
-
-fn small_at(bytes: &[u8], at: usize) -> Result<u64, ByteFault> {
-    Ok(Mod251::read(bytes, at)?.value())
-}
-
-fn large_at(bytes: &[u8], at: usize) -> Result<u64, ByteFault> {
-    Ok(Mod65537::read(bytes, at)?.value())
-}
-
-fn byte_at(bytes: &[u8], at: usize) -> Result<u8, ByteFault> {
-    Ok(Byte::read(bytes, at)?.value())
-}
-
-fn row_at(bytes: &[u8], at: usize) -> Result<[u64; 4], ByteFault> {
-    let row = Row::<Mod251>::read(bytes, at)?;
-    Ok([row.w.value(), row.x.value(), row.y.value(), row.z.value()])
-}
-
-fn large(n: u64) -> Result<Mod65537, Fail> {
-    match Mod65537::new(n) {
-        Some(x) => Ok(x),
-        None => Err(Fail::new("no number below 65,537")),
-    }
-}
 
 const SQUARES: [(&[u8], usize, Result<u64, ByteFault>); 12] = [
     (&[0x00, 0x01], 0, Ok(1)),
@@ -57,7 +29,7 @@ const SQUARES: [(&[u8], usize, Result<u64, ByteFault>); 12] = [
 #[test]
 fn squares(rt: HostRuntime) {
     for &(bytes, at, expected) in &SQUARES {
-        assert_eq!(rt; square_at(bytes, at), expected);
+        assert_eq!(rt; read_at(bytes, at).map(Square::value), expected);
     }
 }
 
@@ -65,9 +37,9 @@ fn squares(rt: HostRuntime) {
 #[test]
 fn all_squares(rt: HostRuntime) -> Result<(), Fail> {
     let mut accepted = 0u32;
-    for n in 0..=65535u16 {
+    for n in 0..=u16::MAX {
         let code = n.to_be_bytes();
-        match square_at(&code, 0) {
+        match read_at(&code, 0).map(Square::value) {
             Ok(value) => {
                 let mut out = [9u8; 2];
                 assert_eq!(rt; element(value)?.write(&mut out), Ok(2));
@@ -83,15 +55,18 @@ fn all_squares(rt: HostRuntime) -> Result<(), Fail> {
 
 #[test]
 fn small_numbers(rt: HostRuntime) {
-    for n in 0..=255u8 {
+    for n in 0..=u8::MAX {
         let expected = if n < 251 {
-            Ok(n as u64)
+            Ok(u64::from(n))
         } else {
             Err(ByteFault::NotElement(2))
         };
-        assert_eq!(rt; small_at(&[1, 1, n, 1], 2), expected);
+        assert_eq!(rt; read_at(&[1, 1, n, 1], 2).map(Mod251::value), expected);
     }
-    assert_eq!(rt; small_at(&[1], 1), Err(ByteFault::Ends(1)));
+    assert_eq!(rt;
+        read_at(&[1], 1).map(Mod251::value),
+        Err(ByteFault::Ends(1))
+    );
 }
 
 const LARGE: [(&[u8], usize, Result<u64, ByteFault>); 9] = [
@@ -113,38 +88,41 @@ const LARGE: [(&[u8], usize, Result<u64, ByteFault>); 9] = [
 #[test]
 fn large_numbers(rt: HostRuntime) {
     for &(bytes, at, expected) in &LARGE {
-        assert_eq!(rt; large_at(bytes, at), expected);
+        assert_eq!(rt; read_at(bytes, at).map(Mod65537::value), expected);
     }
 }
 
 #[test]
 fn bytes(rt: HostRuntime) {
-    for n in 0..=255u8 {
+    for n in 0..=u8::MAX {
         let mut out = [9u8; 2];
-        assert_eq!(rt; Byte::new(n).write(&mut out), Ok(1));
+        assert_eq!(rt; Field::write(Byte::new(n), &mut out), Ok(1));
         assert_eq!(rt; out, [n, 9]);
-        assert_eq!(rt; byte_at(&out, 0), Ok(n));
+        assert_eq!(rt; read_at(&out, 0).map(Byte::value), Ok(n));
     }
-    assert_eq!(rt; byte_at(&[1, 2], 2), Err(ByteFault::Ends(2)));
+    assert_eq!(rt;
+        read_at(&[1, 2], 2).map(Byte::value),
+        Err(ByteFault::Ends(2))
+    );
 }
 
-// The row takes so many bytes at the front of the code, whose others stay, and is read back.
+// The row takes so many bytes at the front of the code, whose others stay, and is read back. The length is what the case expects.
 fn row_and_code<F: Draw>(
     rt: &impl Abort,
-    n: [u64; 4],
+    [w, x, y, z]: [u64; 4],
     len: usize,
     code: [u8; 17],
 ) -> Result<(), Fail> {
     let row = Row {
-        w: F::draw(n[0]),
-        x: F::draw(n[1]),
-        y: F::draw(n[2]),
-        z: F::draw(n[3]),
+        w: F::draw(w),
+        x: F::draw(x),
+        y: F::draw(y),
+        z: F::draw(z),
     };
     let mut out = [9u8; 17];
     assert_eq!(rt; row.write(&mut out), Ok(len));
     assert_eq!(rt; out, code);
-    assert!(rt; row.same(Row::read(&code, 0)?));
+    assert!(rt; read_at::<Row<F>>(&code, 0)? == row);
     Ok(())
 }
 
@@ -167,7 +145,7 @@ fn short_outputs(rt: HostRuntime) {
         Err(ByteFault::Output)
     );
     assert_eq!(rt;
-        Mod65537::zero().write(&mut out[0..3]),
+        Field::write(<Mod65537 as Field>::zero(), &mut out[..3]),
         Err(ByteFault::Output)
     );
     assert_eq!(rt; out, [9; 15]);
@@ -190,18 +168,22 @@ const ROWS: [(&[u8], usize, Result<[u64; 4], ByteFault>); 10] = [
 #[test]
 fn rows_read(rt: HostRuntime) {
     for &(bytes, at, expected) in &ROWS {
-        assert_eq!(rt; row_at(bytes, at), expected);
+        let row = read_at::<Row<Mod251>>(bytes, at);
+        assert_eq!(rt;
+            row.map(|row| [row.w, row.x, row.y, row.z].map(Mod251::value)),
+            expected
+        );
     }
 }
 
 #[test]
 fn large_inverses(rt: HostRuntime) -> Result<(), Fail> {
-    assert_eq!(rt; large(2)?.inv().value(), 32769);
+    assert_eq!(rt; number::<65537>(2)?.inv().value(), 32769);
     for n in [1, 2, 3, 255, 256, 257, 32769, 65535, 65536] {
-        let x = large(n)?;
+        let x = number::<65537>(n)?;
         assert_eq!(rt; x.mul(x.inv()).value(), 1);
     }
-    assert_eq!(rt; large(0)?.inv().value(), 0);
+    assert_eq!(rt; number::<65537>(0)?.inv().value(), 0);
     Ok(())
 }
 
@@ -209,7 +191,7 @@ fn large_inverses(rt: HostRuntime) -> Result<(), Fail> {
 fn byte_products(rt: HostRuntime) {
     assert_eq!(rt; Byte::new(0x57).mul(Byte::new(0x83)).value(), 0xc1);
     assert_eq!(rt; Byte::new(0x53).inv().value(), 0xca);
-    for n in 1..=255u8 {
+    for n in 1..=u8::MAX {
         let x = Byte::new(n);
         assert_eq!(rt; x.mul(x.inv()).value(), 1);
     }

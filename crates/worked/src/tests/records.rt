@@ -1,15 +1,15 @@
 // Setups, proofs and claims: what is written is read back, what is refused, and what an area then holds.
 use crate::tests::number;
 use algebra::claim::Claim;
-use algebra::fault::{ByteFault, Layer};
-use algebra::field::Field;
+use algebra::entry::{Entry, Layer, Refusal};
+use algebra::fault::{ByteFault, SetupFault};
 use algebra::proof::Proof;
 use algebra::setup::Setup;
 use algebra::space::Space;
 use algebra::varint;
-use bench::mod251::Mod251;
 use bench::squares::Square;
 use bench::squares::setup::bench_elements;
+use modular::mod251::Mod251;
 use std::process::Abort;
 use std::test::Fail;
 
@@ -28,17 +28,7 @@ const CLAIM: [u8; 5] = [0x00, 0x61, 0x0f, 0x01, 0x03];
 // What an area holds before.
 const ONES: [u64; 5] = [1, 1, 1, 1, 1];
 
-fn values(area: [Square; 5]) -> [u64; 5] {
-    [
-        area[0].value(),
-        area[1].value(),
-        area[2].value(),
-        area[3].value(),
-        area[4].value(),
-    ]
-}
-
-// Reads into an area of so many places that holds ones; the answer, and what the area then holds.
+// Reads into an area of so many places that holds ones; the answer, and what the area then holds. Bytes, limit and places are one case of a table.
 fn setup_read(
     rt: &impl Abort,
     bytes: &[u8],
@@ -47,17 +37,17 @@ fn setup_read(
 ) -> (Result<(usize, usize), ByteFault>, [u64; 5]) {
     assert!(rt; places <= 5);
     let mut area = [Square::zero(); 5];
-    let answer = Setup::read(bytes, highest, &mut area[0..places]);
-    (answer, values(area))
+    let answer = Setup::read(bytes, highest, &mut area[..places]);
+    (answer, area.map(Square::value))
 }
 
 #[test]
 fn setups_written(rt: HostRuntime) -> Result<(), Fail> {
     let squares = bench_elements();
-    let setup = Setup::new(&squares[0..3])?;
+    let setup = Setup::new(&squares[..3])?;
     assert_eq!(rt; setup.size(), 7);
     let mut out = [9u8; 8];
-    assert_eq!(rt; setup.write(&mut out[0..6]), Err(ByteFault::Output));
+    assert_eq!(rt; setup.write(&mut out[..6]), Err(ByteFault::Output));
     assert_eq!(rt; out, [9; 8]);
     assert_eq!(rt; setup.write(&mut out), Ok(7));
     assert_eq!(rt; out, SETUP);
@@ -78,7 +68,7 @@ fn setups_cut(rt: HostRuntime) {
         for cut in begin..end {
             assert!(rt; cut <= 7);
             assert_eq!(rt;
-                setup_read(&rt, &SETUP[0..cut], 1, 5),
+                setup_read(&rt, &SETUP[..cut], 1, 5),
                 (Err(ByteFault::Ends(begin)), area)
             );
         }
@@ -165,31 +155,25 @@ fn bench_setup(rt: HostRuntime) -> Result<(), Fail> {
     assert_eq!(rt; setup.write(&mut out), Ok(131));
     let mut area = [Square::zero(); 65];
     assert_eq!(rt; Setup::read(&out, 32, &mut area), Ok((32, 131)));
-    for i in 0..65usize {
-        assert_eq!(rt; area[i].value(), row[i].value());
-    }
+    assert_eq!(rt; area.map(Square::value), row.map(Square::value));
     Ok(())
 }
 
-// Reads into an area of so many places that holds ones; how many bytes it took, and what the area then holds.
+// Reads into an area of so many places that holds ones; how many bytes it took, and what the area then holds. Bytes, limit and places are one case of a table.
 fn proof_read(
     rt: &impl Abort,
     bytes: &[u8],
     highest: usize,
     places: usize,
-) -> Result<(Result<usize, ByteFault>, [u64; 5]), Fail> {
+) -> (Result<usize, ByteFault>, [u64; 5]) {
     assert!(rt; places <= 5);
     let mut area = [Square::zero(); 5];
-    match Proof::<Mod251>::read(bytes, highest, &mut area[0..places]) {
-        Ok(read) => Ok((Ok(read.1), values(area))),
-        Err(fault) => Ok((Err(fault), values(area))),
-    }
+    let read = Proof::<Mod251>::read(bytes, highest, &mut area[..places]);
+    (read.map(|(_, used)| used), area.map(Square::value))
 }
 
 fn summary() -> [u8; 32] {
-    let mut summary = [0u8; 32];
-    summary.copy_from_slice(&PROOF[9..41]);
-    summary
+    PROOF[9..41].try_into().unwrap()
 }
 
 // How many places the area and the output have, and the fault.
@@ -213,13 +197,13 @@ fn proofs_written(rt: HostRuntime) -> Result<(), Fail> {
         assert!(rt; places <= 5 && room <= 44);
         let mut out = [9u8; 44];
         assert_eq!(rt;
-            proof.write(&squares[0..places], &mut out[0..room]),
+            proof.write(&squares[..places], &mut out[..room]),
             Err(fault)
         );
         assert_eq!(rt; out, [9; 44]);
     }
     let mut out = [9u8; 44];
-    assert_eq!(rt; proof.write(&squares[0..4], &mut out), Ok(43));
+    assert_eq!(rt; proof.write(&squares[..4], &mut out), Ok(43));
     assert_eq!(rt; out, PROOF);
     assert_eq!(rt; proof.size::<Square>(), 43);
     Ok(())
@@ -230,7 +214,7 @@ fn proofs_read_back(rt: HostRuntime) -> Result<(), Fail> {
     let mut area = [Square::zero(); 5];
     let (proof, used) = Proof::<Mod251>::read(&PROOF, 4, &mut area)?;
     assert_eq!(rt; used, 43);
-    assert_eq!(rt; values(area), [4, 9, 16, 25, 1]);
+    assert_eq!(rt; area.map(Square::value), [4, 9, 16, 25, 1]);
     assert_eq!(rt; proof.rounds, 2);
     assert_eq!(rt; proof.summary, summary());
     assert_eq!(rt; proof.a_final.value(), 7);
@@ -251,27 +235,26 @@ const PROOF_FIELDS: [(usize, usize, [u64; 5]); 8] = [
 ];
 
 #[test]
-fn proofs_cut(rt: HostRuntime) -> Result<(), Fail> {
+fn proofs_cut(rt: HostRuntime) {
     for &(begin, end, area) in &PROOF_FIELDS {
         for cut in begin..end {
             assert!(rt; cut <= 43);
             assert_eq!(rt;
-                proof_read(&rt, &PROOF[0..cut], 4, 5)?,
+                proof_read(&rt, &PROOF[..cut], 4, 5),
                 (Err(ByteFault::Ends(begin)), area)
             );
         }
     }
-    Ok(())
 }
 
-// Reads the proof with one byte changed.
+// Reads the proof with one byte changed, as one case of a table says.
 fn changed_read(
     rt: &impl Abort,
     at: usize,
     byte: u8,
     highest: usize,
     places: usize,
-) -> Result<(Result<usize, ByteFault>, [u64; 5]), Fail> {
+) -> (Result<usize, ByteFault>, [u64; 5]) {
     assert!(rt; at < 44);
     let mut bytes = PROOF;
     bytes[at] = byte;
@@ -290,11 +273,10 @@ const CHANGED: [(usize, u8, ByteFault, [u64; 5]); 7] = [
 ];
 
 #[test]
-fn proofs_changed(rt: HostRuntime) -> Result<(), Fail> {
+fn proofs_changed(rt: HostRuntime) {
     for &(at, byte, fault, area) in &CHANGED {
-        assert_eq!(rt; changed_read(&rt, at, byte, 4, 5)?, (Err(fault), area));
+        assert_eq!(rt; changed_read(&rt, at, byte, 4, 5), (Err(fault), area));
     }
-    Ok(())
 }
 
 // The count of rounds, the highest count of loads, how many places the area has, and the fault; the area stays.
@@ -310,30 +292,28 @@ const ROUNDS: [(u8, usize, usize, ByteFault); 8] = [
 ];
 
 #[test]
-fn rounds_refused(rt: HostRuntime) -> Result<(), Fail> {
+fn rounds_refused(rt: HostRuntime) {
     for &(rounds, highest, places, fault) in &ROUNDS {
         assert_eq!(rt;
-            changed_read(&rt, 0, rounds, highest, places)?,
+            changed_read(&rt, 0, rounds, highest, places),
             (Err(fault), ONES)
         );
     }
-    Ok(())
 }
 
 #[test]
-fn rounds_accepted(rt: HostRuntime) -> Result<(), Fail> {
-    assert_eq!(rt; proof_read(&rt, &PROOF, 4, 4)?, (Ok(43), [4, 9, 16, 25, 1]));
+fn rounds_accepted(rt: HostRuntime) {
+    assert_eq!(rt; proof_read(&rt, &PROOF, 4, 4), (Ok(43), [4, 9, 16, 25, 1]));
     // One round, which is the second of the two, and none: the byte before stands for the count.
     let mut one = PROOF;
     one[4] = 1;
     assert_eq!(rt;
-        proof_read(&rt, &one[4..], 2, 2)?,
+        proof_read(&rt, &one[4..], 2, 2),
         (Ok(39), [16, 25, 1, 1, 1])
     );
     let mut none = PROOF;
     none[8] = 0;
-    assert_eq!(rt; proof_read(&rt, &none[8..], 0, 0)?, (Ok(35), ONES));
-    Ok(())
+    assert_eq!(rt; proof_read(&rt, &none[8..], 0, 0), (Ok(35), ONES));
 }
 
 // P, c, y, log_len, and how many bytes they took.
@@ -379,35 +359,46 @@ const FAULTS: [(&[u8], usize, usize, u8, usize); 5] = [
     (&SETUP, 1, 2, 5, 2),
 ];
 
-#[test]
-fn faults(rt: HostRuntime) -> Result<(), Fail> {
-    for &(bytes, highest, places, number, place) in &FAULTS {
-        match setup_read(&rt, bytes, highest, places).0 {
-            Ok(_) => return Err(Fail::new("not refused")),
-            Err(fault) => {
-                let entry = (fault.number(), fault.layer(), fault.place());
-                assert_eq!(rt; entry, (number, Layer::Bytes, place));
-            }
-        }
+// The entry of a refusal, from its parts.
+fn parts(refusal: impl Refusal) -> Entry {
+    Entry {
+        number: refusal.number(),
+        layer: refusal.layer(),
+        place: refusal.place(),
     }
-    Ok(())
 }
 
 #[test]
-fn faults_without_place(rt: HostRuntime) -> Result<(), Fail> {
-    match varint::write(0, &mut []) {
-        Ok(_) => return Err(Fail::new("not refused")),
-        Err(fault) => {
-            let entry = (fault.number(), fault.layer(), fault.place());
-            assert_eq!(rt; entry, (6, Layer::Bytes, 0));
-        }
+fn faults(rt: HostRuntime) {
+    for &(bytes, highest, places, number, place) in &FAULTS {
+        let (answer, _) = setup_read(&rt, bytes, highest, places);
+        let entry = Entry {
+            number,
+            layer: Layer::Bytes,
+            place,
+        };
+        assert_eq!(rt; answer.map_err(ByteFault::entry), Err(entry));
+        assert_eq!(rt; answer.map_err(parts), Err(entry));
     }
-    match Setup::new(&[Square::zero(); 2]) {
-        Ok(_) => Err(Fail::new("not refused")),
-        Err(fault) => {
-            let entry = (fault.number(), fault.layer(), fault.place());
-            assert_eq!(rt; entry, (23, Layer::Argument, 0));
-            Ok(())
-        }
-    }
+}
+
+#[test]
+fn faults_without_place(rt: HostRuntime) {
+    let entry = Entry {
+        number: 6,
+        layer: Layer::Bytes,
+        place: 0,
+    };
+    let written = varint::write(0, &mut []);
+    assert_eq!(rt; written.map_err(ByteFault::entry), Err(entry));
+    assert_eq!(rt; written.map_err(parts), Err(entry));
+    let entry = Entry {
+        number: 23,
+        layer: Layer::Argument,
+        place: 0,
+    };
+    let even = [Square::zero(); 2];
+    let refusal = Setup::new(&even).err();
+    assert_eq!(rt; refusal.map(SetupFault::entry), Some(entry));
+    assert_eq!(rt; refusal.map(parts), Some(entry));
 }

@@ -1,31 +1,31 @@
-use Rattle.std.proofs.Common.{ap, ◌∙◌, ap₂, arith}
-use Rattle.algebra.specs.Structures.{over_itself}
-use Rattle.algebra.proofs.Folding.{folding_none, folding_pair, folding_alone, folding_done}
+use Rattle.std.proofs.Common.{◌≡◌, ◌<◌, min, length, sym, ap, ◌∙◌, ap₂, arith}
+use Rattle.std.proofs.lemmas.Bool.{ltb-true, ltb-false}
+use Rattle.algebra.specs.Over.{space_over}
+use Rattle.algebra.proofs.Folding.{pair_in_parts, alone_in_parts, parts_done}
 use Rattle.algebra.proofs.fold.fold.Goals as goal
-use Rattle.algebra.proofs.fold.fold.Goals.{then-i-pairs, else-i-pairs}
-
-pub loop-i-init : goal.loop-i-init
-loop-i-init g c = folding_none _ _ _ _ _ _
+use Rattle.algebra.proofs.fold.fold.Goals.{in-Some, in-None}
 
 pub loop-i-preserved : goal.loop-i-preserved
 loop-i-preserved g c =
     let f = g.F.Field in
+    let s = g.G.Space in
     let l = c.loop-i in
-    let a = c.index-values-i.result in
-    elim c.if-i-pairs.branch [
-      | then-i-pairs w ↦
-          folding_pair (over_itself f.field) (f.means c.args.u) (f.means c.args.v) f.means c.args.mid c.args.values.now l.i l.values l.invariant a c.index-values-i.is
-          (omega (arith, c.loop-i-test.true, c.min-i-end.ensures)) (omega (arith, c.loop-i-test.true, c.min-i-end.ensures, l.auto.values)) w.index-values-mid.result c.if-i-pairs.values
-          (omega (arith, w.if-i-pairs.true, c.saturating_sub-pairs.ensures, l.auto.values)) w.index-values-mid.is
-          (ap f.means w.values-is ∙ w.add.ensures ∙ ap₂ f.field.add c.mul-low.ensures w.mul.ensures)
-      | else-i-pairs w ↦
-          folding_alone (over_itself f.field) (f.means c.args.u) (f.means c.args.v) f.means c.args.mid c.args.values.now l.i l.values l.invariant a c.index-values-i.is
-          (omega (arith, c.loop-i-test.true, c.min-i-end.ensures)) (omega (arith, c.loop-i-test.true, c.min-i-end.ensures, l.auto.values)) c.if-i-pairs.values
-          (omega (arith, w.if-i-pairs.false, c.saturating_sub-pairs.ensures, l.auto.values)) (ap f.means w.values-is ∙ c.mul-low.ensures)
+    let inside : l.i < length l.low = omega (arith, c.loop-i-test.true, l.auto.low) in
+    let cut : length l.low ≡ min c.args.mid (length c.args.values.now) = l.auto.low ∙ c.split_at_mut-low.ensures.front_len ∙ c.min.ensures in
+    let scaled : s.means c.scale-scaled.result ≡ (space_over f s).scale (f.means c.args.u) (s.means c.index-low-i.result) = c.scale-scaled.ensures ∙ ap (λ t. (space_over f s).scale (f.means c.args.u) (s.means t)) (sym c.index-low-i.is) in
+    elim c.match-get.branch [
+      | in-Some w ↦
+          pair_in_parts (space_over f s) (f.means c.args.u) (f.means c.args.v) s.means c.args.mid c.args.values.now l.low _ l.i l.invariant _ c.index-low-i.is
+          inside cut w.in-Some.y.now c.match-get.x (ltb-true _ _ (sym w.in-Some.ensures.lookup.0)) w.in-Some.ensures.lookup.1
+          (ap s.means w.x-is ∙ w.add.ensures ∙ ap₂ s.group.add scaled w.scale.ensures)
+      | in-None w ↦
+          alone_in_parts (space_over f s) (f.means c.args.u) (f.means c.args.v) s.means c.args.mid c.args.values.now l.low _ l.i l.invariant _ c.index-low-i.is
+          inside cut c.match-get.x (ltb-false _ _ (sym w.in-None.ensures.lookup.0)) (ap s.means w.x-is ∙ scaled)
     ]
 
 pub returns : goal.returns
 returns g c =
     let l = c.loop-i in
-    let done = folding_done _ _ _ _ _ _ l.i l.values l.invariant (omega (arith, c.loop-i-test.false, c.min-i-end.ensures, l.auto.values)) (omega (arith, l.auto.i-end, c.min-i-end.ensures, l.auto.values)) in
+    let done = parts_done _ _ _ _ _ _ l.low _ l.i l.invariant (l.auto.low ∙ c.split_at_mut-low.ensures.front_len ∙ c.min.ensures)
+    (omega (arith, c.loop-i-test.false, l.auto.low)) (omega (arith, l.auto.i-end, l.auto.low)) in
     record { value = done.0; rest = done.1 }

@@ -1,5 +1,5 @@
 use Rattle.std.proofs.Common.{◌≡◌, suc, ◌+◌, ◌-◌, map, length, sym, ap, ◌∙◌, ap₂, arith}
-use native.Mathlib.Nat.{sub-zero}
+use Rattle.std.proofs.Math.Nat.{sub-zero}
 use Rattle.std.proofs.lemmas.List.{drop_all}
 use Rattle.algebra.specs.Over.{space_over, numbers, elements}
 use Rattle.algebra.specs.Sums.{lin, products, powers}

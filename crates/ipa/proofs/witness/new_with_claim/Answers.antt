@@ -1,5 +1,5 @@
 use Rattle.std.proofs.Common.{ℕ, length, sym, refl, ap, ◌∙◌, ap₂, arith}
-use lib.ListN.{length-map}
+use Rattle.std.proofs.Math.ListN.{length-map}
 use Rattle.std.proofs.lemmas.Bool.{eq-eqb, le-leb, lt-leb}
 use Rattle.algebra.specs.Over.{space_over, numbers, elements}
 use Rattle.algebra.specs.Setups.{count}
@@ -12,8 +12,8 @@ returns-then-count-a g c =
     let a = c.args.a.now in
     let b = c.args.b.now in
     let row = c.args.setup.now.elements.now in
-    let log = c.in-Some.ensures in
-    rw (eq-eqb (length a) (length b) c.if-a-b.false, power_true 64 (length a) c.in-Some.log_len log.1 log.0, lt-leb (length a) (count row) (omega (arith, c.count.ensures, c.if-count-a.true)))
+    let log = rw c.in_ok-log_len.ensures.ok_part at c.log2.ensures in
+    rw (eq-eqb (length a) (length b) c.if-a-b.false, power_true 64 (length a) c.in_ok-log_len.log_len log.1 log.0, lt-leb (length a) (count row) (omega (arith, c.count.ensures, c.if-count-a.true)))
     refl
 
 pub returns : goal.returns
@@ -24,9 +24,9 @@ returns g c =
     let a = c.args.a.now in
     let b = c.args.b.now in
     let row = c.args.setup.now.elements.now in
-    let log = c.in-Some.ensures in
+    let log = rw c.in_ok-log_len.ensures.ok_part at c.log2.ensures in
     let ps = λ (n : ℕ). products f.field (powers f.field (f.means c.args.y) n) (numbers f b) in
-    rw (eq-eqb (length a) (length b) c.if-a-b.false, power_true 64 (length a) c.in-Some.log_len log.1 log.0, le-leb (length a) (count row) (omega (arith, c.count.ensures, c.if-count-a.false)))
+    rw (eq-eqb (length a) (length b) c.if-a-b.false, power_true 64 (length a) c.in_ok-log_len.log_len log.1 log.0, le-leb (length a) (count row) (omega (arith, c.count.ensures, c.if-count-a.false)))
     (record {
       commitment = c.add.ensures
           ∙ ap₂ s.group.add

@@ -1,34 +1,36 @@
--- By how many words there are: none, more than two, one or two.
-use Rattle.std.proofs.Common.{◌≡◌, length, sym, ap, ◌∙◌, true-eqb, false-eqb}
-use Rattle.std.proofs.lemmas.List.{nil_from_length}
-use Rattle.loads.specs.Pieces.{words_of}
-use Rattle.loads.specs.Lines.{said}
-use Rattle.loads.specs.Cuts.{first, others}
-use Rattle.loads.proofs.Fronts.{no_word}
-use Rattle.loads.proofs.Said.{too_many, two_at_most}
+-- By how many words there are.
+use Rattle.std.proofs.Common.{rules, arith, tests, ◌≡◌, sym}
+use Rattle.std.proofs.lemmas.Grind.{common_steps}
+use Rattle.loads.specs.Lines.{line_of}
+use Rattle.loads.proofs.Said.{told, three_words}
 use Rattle.loads.proofs.line.line_load.Goals as goal
-use Rattle.loads.proofs.line.line_load.Goals.{Else-is_empty}
+use Rattle.loads.proofs.line.line_load.Goals.{After-next-3}
 
-pub returns-then-is_empty : goal.returns-then-is_empty
-unfolding said
-returns-then-is_empty c =
-    let none = nil_from_length c.split_word.result.0.now (true-eqb _ 0 c.if-is_empty.ensures) in
-    sym (ap said (no_word _ (sym c.split_word.ensures.word ∙ none)))
+says : (c : After-next-3) → line_of c.args.line.now ≡ told c.next.result c.next-2.result c.next-3.result
+says c =
+    three_words _ _ _ _ c.next.result c.next-2.result c.next-3.result c.args.line.now c.next.ensures.steps c.next-2.ensures.steps c.next-3.ensures.steps
+    (cc) (cc) (cc) c.filter-words.ensures.closure (λ x b q k. search (rules, tests)) (λ x b q k. search (rules, tests))
 
--- the words that follow the first two
-rest : (c : Else-is_empty) → words_of c.split_word-2.result.1.now ≡ others (others (words_of c.args.line.now))
-rest c = c.split_word-2.ensures.more ∙ ap others c.split_word.ensures.more
+pub returns-in-None-default-default : goal.returns-in-None-default-default
+returns-in-None-default-default c = sym (rw c.in-None-default-default.is-0 at (says (goal.at.returns-in-None-default-default c).After-next-3))
 
-pub returns-then-not-is_empty : goal.returns-then-not-is_empty
-returns-then-not-is_empty c =
-    let after = rest (goal.at.returns-then-not-is_empty c).Else-is_empty in
-    sym (too_many _ (λ none. false-eqb _ 0 c.if-not-is_empty.ensures (ap length (c.split_word-3.ensures.word ∙ ap first after ∙ none))))
+pub returns-in_err-ok_or-in-Some-Some-None : goal.returns-in_err-ok_or-in-Some-Some-None
+returns-in_err-ok_or-in-Some-Some-None c =
+    let line = says (goal.at.returns-in_err-ok_or-in-Some-Some-None c).After-next-3 in
+    grind (arith, common_steps)
 
-pub returns : goal.returns
-returns c =
-    let none = nil_from_length c.split_word-3.result.0.now (true-eqb _ 0 c.if-not-is_empty.ensures) in
-    let two =
-    two_at_most (words_of c.args.line.now)
-    (λ e. false-eqb _ 0 c.if-is_empty.ensures (ap length (c.split_word.ensures.word ∙ e)))
-    (sym (rest (goal.at.returns c).Else-is_empty) ∙ no_word _ (sym c.split_word-3.ensures.word ∙ none)) in
-    cc two
+pub returns-in_err-ok_or-in-Some-Some-None-2 : goal.returns-in_err-ok_or-in-Some-Some-None-2
+returns-in_err-ok_or-in-Some-Some-None-2 c =
+    let line = says (goal.at.returns-in_err-ok_or-in-Some-Some-None-2 c).After-next-3 in
+    grind (arith, common_steps)
+
+pub returns-in_ok-ok_or-in-Some-Some-None-2 : goal.returns-in_ok-ok_or-in-Some-Some-None-2
+returns-in_ok-ok_or-in-Some-Some-None-2 c =
+    let line = says (goal.at.returns-in_ok-ok_or-in-Some-Some-None-2 c).After-next-3 in
+    grind (arith, common_steps)
+
+pub returns-in_default : goal.returns-in_default
+returns-in_default c = sym (rw (c.in_default.is-0, c.in_default.is-1, c.in_default.is-2) at (says (goal.at.returns-in_default c).After-next-3))
+
+pub returns-in_default-2 : goal.returns-in_default-2
+returns-in_default-2 c = sym (rw (c.in_default.is-0, c.in_default.is-1) at (says (goal.at.returns-in_default-2 c).After-next-3))

@@ -1,47 +1,27 @@
--- Each byte is one more digit, or ends the reading; so does a value that is too large.
-use Rattle.std.proofs.Common.{◌≡◌, ◌+◌, ◌-◌, ◌*◌, get_or, drop, sym, refl, ap, ◌∙◌, arith, true-eqb, false-eqb}
-use Rattle.std.proofs.lemmas.List.{nil_from_length}
-use Rattle.loads.specs.Numbers.{number_of}
-use Rattle.loads.proofs.Values.{number_after, from_none, at_digit, at_other, at_much, at_end}
+-- Digits alone are text, of which `parse` reads the number.
+use Rattle.std.proofs.Common.{rules, tests, arith, ◌≡◌, true, sym, ◌∙◌}
+use Rattle.std.specs.Char.{is_ascii_digit}
+use Rattle.std.specs.Str.{all_ascii_digits}
+use Rattle.std.proofs.lemmas.Iterator.{YieldsList-from_slice}
+use Rattle.std.proofs.lemmas.Iterator.Search.{all_from_yields_List}
+use Rattle.std.proofs.lemmas.Grind.{common_steps}
+use Rattle.loads.proofs.Values.{digits, not_digits, digits_text, parsed}
 use Rattle.loads.proofs.line.number.Goals as goal
+use Rattle.loads.proofs.line.number.Goals.{After-all}
 
-pub returns-then-is_empty : goal.returns-then-is_empty
-unfolding number_of
-returns-then-is_empty c = rw (nil_from_length c.args.word.now (true-eqb _ 0 c.if-is_empty.ensures)) refl
+all : (c : After-all) → c.all.result ≡ all_ascii_digits c.args.word.now
+all c = all_from_yields_List is_ascii_digit _ _ c.all.result c.all.ensures.ran (YieldsList-from_slice c.args.word.now cc) (λ x b q k. search (rules, tests)) ∙ digits c.args.word.now
 
-pub loop-byte-init : goal.loop-byte-init
-loop-byte-init c = (omega arith, from_none c.args.word.now (omega (arith, false-eqb _ 0 c.if-is_empty.ensures)))
+pub returns-then-not-all : goal.returns-then-not-all
+returns-then-not-all c = not_digits _ (sym (all (goal.at.returns-then-not-all c).After-all) ∙ c.if-not-all.true)
 
-pub returns-then-not-is_ascii_digit : goal.returns-then-not-is_ascii_digit
-returns-then-not-is_ascii_digit c =
-    let l = c.loop-byte in
-    sym (at_other c.args.word.now l.byte-index l.value c.loop-byte-test.true (sym c.if-not-is_ascii_digit.ensures.value)) ∙ l.invariant.1
-
-pub returns-in_err-checked_mul : goal.returns-in_err-checked_mul
-returns-in_err-checked_mul c =
-    let l = c.loop-byte in
-    c.from_residual.ensures
-    ∙ sym (at_much c.args.word.now l.byte-index l.value c.loop-byte-test.true (sym c.if-not-is_ascii_digit.ensures.value) (omega (arith, c.in_err-checked_mul.ensures)))
-    ∙ l.invariant.1
-
-pub returns-in_err-value : goal.returns-in_err-value
-returns-in_err-value c =
-    let l = c.loop-byte in
-    c.from_residual-in_err-value.ensures
-    ∙ sym (at_much c.args.word.now l.byte-index l.value c.loop-byte-test.true (sym c.if-not-is_ascii_digit.ensures.value) (omega (arith, c.in_ok-checked_mul.ensures, c.from.ensures, c.in_err-value.ensures)))
-    ∙ l.invariant.1
-
-pub loop-byte-preserved : goal.loop-byte-preserved
-loop-byte-preserved c =
-    let l = c.loop-byte in
-    let value : c.in_ok-value.value ≡ l.value * 10 + (get_or c.args.word.now l.byte-index 0 - 48) = omega (arith, c.in_ok-checked_mul.ensures, c.from.ensures, c.in_ok-value.ensures) in (
-      omega (arith, c.in_ok-value.ensures),
-      ap (λ n. number_after n (drop (l.byte-index + 1) c.args.word.now)) value
-          ∙ sym (at_digit c.args.word.now l.byte-index l.value c.loop-byte-test.true (sym c.if-not-is_ascii_digit.ensures.value))
-          ∙ l.invariant.1,
-    )
+pub returns-in_err-ok : goal.returns-in_err-ok
+returns-in_err-ok c =
+    let text = digits_text c.args.word.now (sym (all (goal.at.returns-in_err-ok c).After-all) ∙ c.if-not-all.false) in
+    absurd (grind (arith, common_steps))
 
 pub returns : goal.returns
 returns c =
-    let l = c.loop-byte in
-    sym (at_end c.args.word.now l.byte-index l.value c.loop-byte-test.false l.invariant.0) ∙ l.invariant.1
+    let digits : all_ascii_digits c.args.word.now ≡ true = sym (all (goal.at.returns c).After-all) ∙ c.if-not-all.false in
+    let same : c.in_ok-ok.field-0.now ≡ c.args.word.now = grind (arith, common_steps) in
+    c.ok-2.ensures.value ∙ search (rules, parsed)

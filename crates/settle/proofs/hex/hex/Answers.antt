@@ -1,30 +1,20 @@
-use Rattle.std.proofs.Common.{◌≡◌, ℕ, ◌+◌, List, [], ◌∷◌, ◌++◌, drop, string_bytes, sym, ap, ◌∙◌, ap₂, append_assoc, append-nil, arith}
+use Rattle.std.proofs.Common.{◌≡◌, ◌+◌, ◌/◌, ◌%◌, ◌<◌, false, [], ◌∷◌, ◌++◌, drop, get_or, string_bytes, sym, ap, ◌∙◌, append_assoc, append-nil, arith}
 use Rattle.std.proofs.lemmas.List.{at_drop_more, at_drop_all}
-use Rattle.settle.specs.Hex.{spaced}
+use Rattle.std.proofs.lemmas.Fmt.{hex_byte}
+use Rattle.settle.specs.Hex.{hex_digit, spaced}
 use Rattle.settle.proofs.hex.hex.Goals as goal
-
--- three characters more
-three : (t : List ℕ) {u v w d e f : List ℕ} {a b c : ℕ} (rest : List ℕ) → u ≡ t ++ d → d ≡ a ∷ [] → v ≡ u ++ e → e ≡ b ∷ [] → w ≡ v ++ f → f ≡ c ∷ []
-    → w ++ rest ≡ t ++ (a ∷ b ∷ c ∷ rest)
-three t {a = a} {b = b} {c = c} rest p x q y r z =
-    let first = p ∙ ap (λ s. t ++ s) x in
-    let second = q ∙ ap₂ ◌++◌ first y in
-    let third = r ∙ ap₂ ◌++◌ second z in
-    let joined : t ++ (a ∷ []) ++ (b ∷ []) ++ (c ∷ []) ++ rest ≡ t ++ (a ∷ b ∷ c ∷ rest) = simp append_assoc in
-    ap (λ s. s ++ rest) third ∙ joined
 
 pub loop-b-preserved : goal.loop-b-preserved
 loop-b-preserved c =
     let l = c.loop-b in
     let bytes = c.args.bytes.now in
     let t = string_bytes l.text in
-    let one = c.in_ok-push.ensures in
-    let two = c.in_ok-push-2.ensures in
-    let last = c.in_ok-push-3.ensures in
-    three t (spaced (drop (l.b-index + 1) bytes))
-    one.bytes (one.ascii (omega arith))
-    two.bytes (two.ascii c.digit.ensures.bound ∙ ap (λ n. n ∷ []) c.digit.ensures.value)
-    last.bytes (last.ascii c.digit-in-loop-b.ensures.bound ∙ ap (λ n. n ∷ []) c.digit-in-loop-b.ensures.value)
+    let b = get_or bytes l.b-index 0 in
+    let byte : b < 256 = omega (arith, c.type_inv.bytes l.b-index) in
+    let rest = spaced (drop (l.b-index + 1) bytes) in
+    let wrote : string_bytes c.write.new.self ≡ t ++ (32 ∷ hex_digit (b / 16) ∷ hex_digit (b % 16) ∷ []) =
+    rw (c.in_radix.ensures, c.laid_out.ensures, hex_byte false b byte) at c.in_ok-write.ensures.bytes in
+    ap (λ s. s ++ rest) wrote ∙ append_assoc t (32 ∷ hex_digit (b / 16) ∷ hex_digit (b % 16) ∷ []) rest
     ∙ ap (λ s. t ++ s) (sym (at_drop_more spaced bytes l.b-index 0 c.loop-b-test.true)) ∙ l.invariant
 
 pub returns : goal.returns

@@ -12,7 +12,7 @@ pub returns-then-out-size : goal.returns-then-out-size
 returns-then-out-size g c =
     let f = g.F.Field in
     let s = g.G.Space in
-    let p = c.args.self in
+    let p = c.args.self.now in
     let area = c.args.area.now in
     let room = c.if-area-n.false in
     let long : length p.summary ≡ 32 = search rules in
@@ -24,7 +24,7 @@ pub returns : goal.returns
 returns g c =
     let f = g.F.Field in
     let s = g.G.Space in
-    let p = c.args.self in
+    let p = c.args.self.now in
     let n = p.rounds in
     let area = c.args.area.now in
     let out = c.args.out.now in
@@ -38,11 +38,11 @@ returns g c =
     let code = proof_code f.codec s.codec f.means s.means p area enough in
     let parts = ap length code ∙ length-append code_n (code_run ++ code_fin) ∙ ap (λ t. length code_n + t) (length-append code_run code_fin) in
     let wide_run : length code_run ≡ 2 * n * s.codec.size = codes_length s.codec g.met.G.Space.encodes s.means InTurn (2 * n) area (λ j h. (omega (arith, h, enough))) out (2 * n) (omega arith) in
-    let stride = ap (λ t. 2 * n * t) c.width.ensures in
+    let stride = ap (λ t. 2 * n * t) (c.SIZE.ensures ∙ sym g.met.G.Space.measured) in
     let room = c.if-out-size.false in
     let held = three_held code_n code_run out c.write.new.out c.write_run.new.out c.write.result c.write_run.result c.size-rounds_at.result
     (omega (arith, size, c.size-size.ensures, parts, room)) c.write.ensures c.size-rounds_at.ensures.value c.write_run.ensures
-    code_fin c.write_finals.new.out c.write_finals.result (c.size-rounds_at.result + 2 * n * c.width.result) (omega (arith, size, c.size-size.ensures, parts, room))
+    code_fin c.write_finals.new.out c.write_finals.result (c.size-rounds_at.result + 2 * n * c.SIZE.result) (omega (arith, size, c.size-size.ensures, parts, room))
     (omega (arith, wide_run, stride, c.size-rounds_at.ensures.value)) c.write_finals.ensures in
     record {
       no_area = λ h. absurd (omega (arith, h, enough));

@@ -57,10 +57,10 @@ returns g c =
     let parts = ap length code ∙ length-append code_q (code_n ++ code_run) ∙ ap (λ t. length code_q + t) (length-append code_n code_run) in
     let first = g.met.G.Space.encodes.sized (s.means q) in
     let room = c.if-out-size.false in
-    let held = three_held code_q code_n out c.write.new.out c.write-2.new.out c.write.result c.write-2.result c.width-count_at.result
-    (omega (arith, size, wide, parts, room)) c.write.ensures (omega (arith, first, c.width-count_at.ensures)) c.write-2.ensures
-    code_run c.write_run.new.out c.write_run.result (c.width-count_at.result + c.size.result) (omega (arith, size, wide, parts, room))
-    (omega (arith, first, c.width-count_at.ensures, c.size.ensures.value)) c.write_run.ensures in
+    let held = three_held code_q code_n out c.write.new.out c.write-2.new.out c.write.result c.write-2.result c.SIZE-count_at.result
+    (omega (arith, size, wide, parts, room)) c.write.ensures (omega (arith, first, (c.SIZE-count_at.ensures ∙ sym g.met.G.Space.measured))) c.write-2.ensures
+    code_run c.write_run.new.out c.write_run.result (c.SIZE-count_at.result + c.size.result) (omega (arith, size, wide, parts, room))
+    (omega (arith, first, (c.SIZE-count_at.ensures ∙ sym g.met.G.Space.measured), c.size.ensures.value)) c.write_run.ensures in
     record {
       setup = setup_at s.means row n q long last;
       row_is = row_is s.means row n q long last;

@@ -1,15 +1,11 @@
-use Rattle.std.proofs.Common.{◌%◌, ◌^◌, refl, ap, ◌∙◌, mod-lt, lit<}
+use Rattle.std.proofs.Common.{◌%◌, ◌^◌, refl, ap₂, ◌∙◌}
 use Rattle.algebra.specs.Powers.{power_unit}
+use Rattle.bench.specs.Squares.{Square}
 use Rattle.bench.specs.SquareLaws.{by_value}
 use Rattle.bench.proofs.squares.SquareSpace.scale.Goals as goal
 
 pub invariant_of-result : goal.invariant_of-result
-invariant_of-result c =
-    let made = c.power.ensures in
-    record {
-      below = rw made (mod-lt _ (lit< tt));
-      unit = rw made (power_unit 503 251 c.args.self.value c.value.result refl c.args.self.unit);
-    }
+invariant_of-result c = (rw c.pow.ensures (power_unit 503 251 c.self.inside.value.value c.value.result refl c.self.inside.unit), tt)
 
 pub returns : goal.returns
-returns c = by_value _ _ (c.power.ensures ∙ ap (λ s. c.args.self.value ^ s % 503) c.value.ensures)
+returns c = by_value _ _ (c.pow.ensures ∙ ap₂ (λ (x : Square) s. x.value ^ s % 503) c.self.view_is c.value.ensures)

@@ -1,36 +1,28 @@
-use Rattle.std.proofs.Common.{◌≡◌, ◌+◌, ◌++◌, length, drop, sym, ap, ◌∙◌, append_assoc, arith, length-append}
-use Rattle.algebra.proofs.Writing.{holds_next, three_held, held_written, too_short}
-use Rattle.plant.specs.Rows.{row_meant}
-use Rattle.plant.specs.RowBytes.{row_encodes}
+use Rattle.std.proofs.Common.{◌*◌, ◌≤◌, ◌++◌, length, sym, ap, ◌∙◌, append_assoc, append-nil, arith}
+use Rattle.plant.proofs.Writing.{all_written, not_refused, next_held}
 use Rattle.plant.proofs.row.RowSpace.write.Goals as goal
 
-pub returns-then-out-n : goal.returns-then-out-n
-returns-then-out-n g c =
-    let long = (row_encodes g.F.Field.codec g.met.F.Field.encodes).sized (row_meant g.F.Field.means c.args.self) in
-    too_short _ c.args.out.now (omega (arith, long, c.width-n.ensures, c.if-out-n.true))
+pub returns-in_err-at : goal.returns-in_err-at
+returns-in_err-at g c =
+    let laws = g.met.F.Field in
+    let room : 4 * g.F.Field.codec.size ≤ length c.args.out.now = omega (arith, c.if-out-SIZE.false, c.SIZE.ensures, laws.measured) in
+    absurd (not_refused c.loop-number.invariant (λ x. laws.encodes.sized _) room c.number-item.result c.write.new.out c.write.result c.loop-number-test.true c.write.ensures _ c.in_err-at.was)
+
+pub loop-number-preserved : goal.loop-number-preserved
+loop-number-preserved g c =
+    let laws = g.met.F.Field in
+    let room : 4 * g.F.Field.codec.size ≤ length c.args.out.now = omega (arith, c.if-out-SIZE.false, c.SIZE.ensures, laws.measured) in
+    next_held c.loop-number.invariant (λ x. laws.encodes.sized _) room c.number-item.result c.write.new.out c.write.result c.loop-number-test.true c.write.ensures
+    c.in_ok-at.field-0 c.in_ok-at.was
 
 pub returns : goal.returns
 returns g c =
     let f = g.F.Field in
-    let row = row_meant f.means c.args.self in
-    let sized = g.met.F.Field.encodes.sized in
-    let w = f.codec.encode row.w in
-    let x = f.codec.encode row.x in
-    let y = f.codec.encode row.y in
-    let z = f.codec.encode row.z in
-    let n = c.width-n.result in
-    let is = c.width-n.ensures in
-    let room = c.if-out-n.false in
-    let long_w = sized row.w in
-    let long_x = sized row.x in
-    let long_y = sized row.y in
-    let long_z = sized row.z in
-    let out = c.args.out.now in
-    let three = three_held w x out c.write.new.out c.write-2.new.out c.write.result c.write-2.result n (omega (arith, long_w, long_x, is, room)) c.write.ensures (omega (arith, long_w, is)) c.write-2.ensures
-    y c.write-3.new.out c.write-3.result (n + n) (omega (arith, long_w, long_x, long_y, is, room)) (omega (arith, long_w, long_x, is)) c.write-3.ensures in
-    let so_far = length-append w (x ++ y) ∙ ap (λ t. length w + t) (length-append x y) in
-    let all = holds_next (w ++ (x ++ y)) z out _ c.write-4.new.out (n + n + n) c.write-4.result three (omega (arith, so_far, long_w, long_x, long_y, is)) c.write-4.ensures
-    (omega (arith, so_far, long_w, long_x, long_y, long_z, is, room)) in
-    let whole : (w ++ (x ++ y)) ++ z ≡ (w ++ x) ++ (y ++ z) = ap (λ t. t ++ z) (sym (append_assoc w x y)) ∙ append_assoc (w ++ x) y z in
-    let long = (row_encodes f.codec g.met.F.Field.encodes).sized row in
-    held_written _ out _ _ (all ∙ ap (λ t. t ++ drop (length t) out) whole) (omega (arith, long, is)) (omega (arith, long, is, room))
+    let laws = g.met.F.Field in
+    let room : 4 * f.codec.size ≤ length c.args.out.now = omega (arith, c.if-out-SIZE.false, c.SIZE.ensures, laws.measured) in
+    let w = f.codec.encode (f.means c.args.self.w) in
+    let x = f.codec.encode (f.means c.args.self.x) in
+    let y = f.codec.encode (f.means c.args.self.y) in
+    let z = f.codec.encode (f.means c.args.self.z) in
+    all_written c.loop-number.invariant (λ x. laws.encodes.sized _) room ((w ++ x) ++ (y ++ z))
+    (ap (λ t. w ++ (x ++ (y ++ t))) (append-nil z) ∙ sym (append_assoc w x (y ++ z))) (omega arith)

@@ -1,0 +1,31 @@
+// The integers modulo 65,537, in four bytes; inverses by a power.
+ghost use Rattle.std.proofs.Common.{◌≡◌, refl, lit<, lit≤};
+ghost use Rattle.modular.specs.Primes.{inverse_mod};
+ghost use Rattle.modular.specs.Orders.{inverts as inverts65537};
+
+use crate::number::Modular;
+use crate::prime::Prime;
+
+pub type Mod65537 = Modular<65537>;
+
+impl Prime<65537> for Mod65537 {
+    const WIDTH: usize = 4;
+
+    ghost WIDTH = { 4 };
+
+    ghost several = { lit< tt };
+
+    ghost inverts = { inverts65537 };
+
+    ghost zero = { refl };
+
+    ghost fits = { lit≤ tt };
+
+    ghost narrow = { (lit≤ tt, lit≤ tt) };
+
+    fn inverse(x: Mod65537) -> Mod65537
+        ensures { result ≡ inverse_mod (lit< tt) x }
+    {
+        x.pow(65535)
+    }
+}

@@ -1,7 +1,0 @@
-use Rattle.std.proofs.Common.{◌≡◌, ◌-◌, ◌<◌}
-use lib.Bits.{bit_xor}
-use Rattle.plant.specs.ByteLaws.{quick}
-use Rattle.plant.proofs.byte.product.Given as goal
-
-abbrev pub invariant-loop : goal.invariant-loop
-invariant-loop l = (bit_xor l.sum (quick (8 - l.counter) l.left l.shifted) ≡ quick 8 l.a l.b) × (l.shifted < 256)
