@@ -1,8 +1,8 @@
 -- The laws of the numbers below p: a field wherever the inverse is one, written by number. Assumes nothing.
-use Rattle.std.proofs.Common.{◌≡◌, ℕ, ◌+◌, ◌-◌, ◌*◌, ◌%◌, ◌^◌, ◌<◌, ◌≤◌, ltb, sym, refl, ap, ◌∙◌, subst, add-zero, add_assoc, mod-eq_of_lt, mul_assoc, mul_comm, add_comm, pos_of_ne-zero, mul-one, mul-add, arith, Some, None}
+use Rattle.std.proofs.Common.{◌≡◌, ℕ, ◌+◌, ◌-◌, ◌*◌, ◌%◌, ◌^◌, ◌<◌, ◌≤◌, ltb, true, nat_eq, ◌↔◌, sym, refl, ap, ◌∙◌, subst, add-zero, add_assoc, mod-eq_of_lt, mul_assoc, mul_comm, add_comm, pos_of_ne-zero, mul-one, mul-add, arith, Some, None}
 use Rattle.std.proofs.Math.Bridge.{le_prop}
 use Rattle.std.proofs.Math.Nat.{mod_self, mod-add-mod, add-mod-mod, add-mod}
-use Rattle.std.proofs.lemmas.Bool.{lt-ltb, le-ltb}
+use Rattle.std.proofs.lemmas.Bool.{lt-ltb, le-ltb, eqb-true, eq-eqb}
 use Rattle.algebra.specs.Structures.{IsField}
 use Rattle.algebra.specs.Powers.{mod-mul-mod, mul-mod-mod}
 use Rattle.algebra.specs.Modular.{Residue, residue, modular, below_p}
@@ -35,6 +35,13 @@ modular_field {p} h inverse inverts zero = record {
   inv-zero = by_value _ _ zero;
   one-zero = λ e. let z : ◌≡◌ {A = ℕ} 1 0 = ap (λ r. r.value) e in omega arith;
 }
+
+-- Where a number fixes an element, elements are equal where their numbers are.
+pub equal_by : {X : Type 0} (number : X → ℕ) → ((x y : X) → number x ≡ number y → x ≡ y) → (x y : X) → (nat_eq (number x) (number y) ≡ true) ↔ (x ≡ y)
+equal_by number fixes x y = (λ t. fixes x y (eqb-true (number x) (number y) t), λ e. eq-eqb (number x) (number y) (ap number e))
+
+pub equal_residues : {p : ℕ} (x y : Residue p) → (nat_eq x.value y.value ≡ true) ↔ (x ≡ y)
+equal_residues {p} = equal_by (λ (x : Residue p). x.value) by_value
 
 pub found : {p : ℕ} (x : Residue p) → below_p p x.value ≡ Some x
 found {p} x = if_passes (ltb x.value p) _ x (λ e. by_value _ _ refl) (lt-ltb x.value p x.below)

@@ -36,7 +36,7 @@ impl<F: Field, G: Space<Scalar = F>> Claim<F, G> {
         if out.len() < Self::size() {
             return Err(ByteFault::Output);
         }
-        // There is room for all, so that no part is refused; a refusal of writing has no place, so that no writer keeps one.
+        // There is room for all, so that no part is refused. No refusal of writing has a place: a writer with an offset is no plainer.
         let _ = self.commitment.write(out);
         let product_at = G::SIZE;
         let _ = self.product.write(&mut out[product_at..]);

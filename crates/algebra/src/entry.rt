@@ -1,5 +1,6 @@
 // The table of faults: a number, a layer and a place for each refusal.
-ghost use Rattle.std.specs.Prelude.{◌≡◌};
+ghost use Rattle.std.specs.Prelude.{◌≡◌, Some};
+ghost use Rattle.algebra.specs.Faults.{layer_text};
 
 use std::fmt;
 
@@ -12,6 +13,8 @@ pub enum Layer {
 }
 
 impl fmt::Display for Layer {
+    ghost output = { λ layer. Some (layer_text layer) };
+
     fn fmt<W: fmt::Write>(&self, f: &mut fmt::Formatter<W>) -> fmt::Result {
         f.write_str(match self {
             Layer::Bytes => "bytes",

@@ -1,6 +1,6 @@
 // What is refused: each fault by number, layer and place.
-ghost use Rattle.std.specs.Prelude.{◌≡◌};
-ghost use Rattle.algebra.specs.Faults.{byte_entry, setup_entry};
+ghost use Rattle.std.specs.Prelude.{◌≡◌, Some};
+ghost use Rattle.algebra.specs.Faults.{byte_entry, byte_text, setup_entry, setup_text};
 
 use crate::entry::{Entry, Layer, Refusal};
 use std::error::Error;
@@ -46,6 +46,8 @@ impl Refusal for ByteFault {
 impl Error for ByteFault {}
 
 impl fmt::Display for ByteFault {
+    ghost output = { λ fault. Some (byte_text fault) };
+
     fn fmt<W: fmt::Write>(&self, f: &mut fmt::Formatter<W>) -> fmt::Result {
         f.write_str(match self {
             ByteFault::Ends(_) => "the input ends inside a field",
@@ -81,6 +83,8 @@ impl Refusal for SetupFault {
 impl Error for SetupFault {}
 
 impl fmt::Display for SetupFault {
+    ghost output = { λ fault. Some (setup_text fault) };
+
     fn fmt<W: fmt::Write>(&self, f: &mut fmt::Formatter<W>) -> fmt::Result {
         let SetupFault::Row = self;
         f.write_str("the row is no setup")

@@ -54,7 +54,7 @@ impl<F: Field> Proof<F> {
         if out.len() < size {
             return Err(ByteFault::Output);
         }
-        // There is room for all, so that no part is refused; a refusal of writing has no place, so that no writer keeps one.
+        // There is room for all, so that no part is refused. No refusal of writing has a place: a writer with an offset is no plainer.
         let _ = varint::write(n as u64, out);
         let rounds_at = varint::size(n as u64);
         let _ = run::write_run(area, 2 * n, Order::InTurn, &mut out[rounds_at..]);
@@ -105,7 +105,7 @@ impl<F: Field> Proof<F> {
         if out.len() < size {
             return Err(ByteFault::Output);
         }
-        // There is room for all, so that no part is refused; a refusal of writing has no place, so that no writer keeps one.
+        // There is room for all, so that no part is refused. No refusal of writing has a place: a writer with an offset is no plainer.
         let _ = bytes::put(&self.summary, out);
         let _ = self.a_final.write(&mut out[32..]);
         let _ = self.b_final.write(&mut out[b_at..]);

@@ -1,9 +1,9 @@
 -- The laws of the squares modulo 503. Assumes nothing.
-use Rattle.std.specs.Prelude.{◌≡◌, ℕ, ◌+◌, ◌*◌, ◌%◌, ◌^◌, ◌<◌, ◌↔◌, true, false, ◌==◌, nat_eq, nat_lt, refl, Some, None}
+use Rattle.std.specs.Prelude.{◌≡◌, ℕ, ◌+◌, ◌*◌, ◌%◌, ◌^◌, ◌<◌, false, ◌==◌, nat_lt, refl, Some, None}
 use Rattle.std.proofs.Common.{sym, ap, ◌∙◌, subst, mod-eq_of_lt, pow-suc, mul_assoc, mul_comm, mul-one, one-mul, arith, pow-add}
 use Rattle.std.proofs.Math.Bridge.{le_prop}
 use Rattle.std.proofs.Math.Nat.{ℕ_set, pow-zero}
-use Rattle.std.proofs.lemmas.Bool.{lt-ltb, eqb-true, eq-eqb, and_from}
+use Rattle.std.proofs.lemmas.Bool.{lt-ltb, eq-eqb, and_from}
 use Rattle.algebra.specs.Structures.{IsGroup, SpaceOps, with_multiples, OverSum, OverAdd, OverMul, ByOne}
 use Rattle.algebra.specs.Powers.{mod-mul-mod, mul-mod-mod, both_mod, pow-mod, mul-pow, pow-mul, pow_order}
 use Rattle.modular.specs.Mod251.{Mod251, field251}
@@ -56,9 +56,3 @@ square_numbers = record {
   finds = found;
   only = λ n x e. ap (λ (r : Square). r.value) (passed_from (is_square n) _ x e).1;
 }
-
-pub equal_squares : (x y : Square) → (nat_eq x.value y.value ≡ true) ↔ (x ≡ y)
-equal_squares x y = (
-  (λ t. by_value x y (eqb-true x.value y.value t)),
-  (λ e. eq-eqb x.value y.value (ap (λ (r : Square). r.value) e)),
-)

@@ -4,7 +4,8 @@ ghost use Rattle.std.proofs.Common.{lit≤};
 ghost use Rattle.algebra.specs.Modular.{residue};
 ghost use Rattle.algebra.proofs.BigEndian.{numbers_encode};
 ghost use Rattle.bench.specs.Squares.{Square as Elem503, square, squares as group503, power as powers, is_square, square_at, codec503};
-ghost use Rattle.bench.specs.SquareLaws.{squares_group, square_numbers, equal_squares};
+ghost use Rattle.bench.specs.SquareLaws.{squares_group, square_numbers, by_value};
+ghost use Rattle.algebra.proofs.Residues.{equal_by};
 
 use algebra::bytes;
 use algebra::fault::ByteFault;
@@ -66,7 +67,7 @@ impl Space for Square {
 
     ghost codec = { codec503 };
 
-    ghost equal = { equal_squares };
+    ghost equal = { equal_by (λ x. x.value) by_value };
 
     ghost lawful = { squares_group };
 

@@ -1,6 +1,6 @@
 // What the argument refuses, each fault by number, layer and place.
-ghost use Rattle.std.specs.Prelude.{◌≡◌};
-ghost use Rattle.ipa.specs.Faults.{argument_entry};
+ghost use Rattle.std.specs.Prelude.{◌≡◌, Some};
+ghost use Rattle.ipa.specs.Faults.{argument_entry, argument_text};
 
 use algebra::entry::{Entry, Layer, Refusal};
 use std::error::Error;
@@ -34,6 +34,8 @@ impl Refusal for Fault {
 }
 
 impl fmt::Display for Fault {
+    ghost output = { λ fault. Some (argument_text fault) };
+
     fn fmt<W: fmt::Write>(&self, f: &mut fmt::Formatter<W>) -> fmt::Result {
         f.write_str(match self {
             Fault::Lengths => "the two vectors differ in length",

@@ -2,8 +2,9 @@
 ghost use Rattle.std.specs.Prelude.{◌≡◌, ◌*◌, ◌%◌, ◌^◌, ◌<◌, ◌≤◌, refl, MatchOption};
 ghost use Rattle.std.proofs.Common.{rules};
 ghost use Rattle.algebra.specs.Modular.{Residue, residue, reduced};
+ghost use Rattle.algebra.proofs.Residues.{equal_residues};
 ghost use Rattle.modular.specs.Primes.{field_mod, codec_mod};
-ghost use Rattle.modular.specs.PrimeLaws.{field_laws, codec_laws, equal_residues, at_most_64};
+ghost use Rattle.modular.specs.PrimeLaws.{field_laws, codec_laws, at_most_64};
 
 use crate::prime::Prime;
 use algebra::bytes;

@@ -1,9 +1,9 @@
 -- The laws of the field of 256 elements and of its encoding, and its product as a program computes it. Assumes nothing.
-use Rattle.std.specs.Prelude.{◌≡◌, ℕ, zero, suc, ◌+◌, ◌-◌, ◌*◌, ◌/◌, ◌%◌, ◌^◌, ◌<◌, ◌≤◌, Bool, true, false, cond, List, [], ◌∷◌, length, ◌==◌, ◌≢◌, ◌↔◌, nat_eq, refl}
+use Rattle.std.specs.Prelude.{◌≡◌, ℕ, zero, suc, ◌+◌, ◌-◌, ◌*◌, ◌/◌, ◌%◌, ◌^◌, ◌<◌, ◌≤◌, Bool, true, false, cond, List, [], ◌∷◌, length, ◌==◌, ◌≢◌, nat_eq, refl}
 use Rattle.std.proofs.Common.{sym, ap, ap₂, ◌∙◌, subst, mod-lt, mod-eq_of_lt, pow-suc, pos_of_ne-zero, arith, eqb→eq, lit<, lit≤}
 use Rattle.std.specs.Int.Bits.{bit_xor, xor_zero_r, xor_assoc}
 use Rattle.std.proofs.lemmas.Nat.{xor_shr, xor_mod, xor_lt}
-use Rattle.std.proofs.lemmas.Bool.{eqb-true, eq-eqb, ne_eqb}
+use Rattle.std.proofs.lemmas.Bool.{eq-eqb, ne_eqb}
 use Rattle.algebra.specs.Structures.{IsField}
 use Rattle.algebra.specs.Codec.{IsCodec}
 use Rattle.algebra.proofs.BigEndian.{numbers_encode}
@@ -62,9 +62,6 @@ bits-xor (suc w) a b =
 
 pub byte_of : (n : ℕ) (x : Byte) → n ≡ x.value → byte n ≡ x
 byte_of n x e = by_value _ _ (ap (λ t. t % 256) e ∙ mod-eq_of_lt x.below)
-
-pub same_byte : (x y : Byte) → (nat_eq x.value y.value ≡ true) ↔ (x ≡ y)
-same_byte x y = (λ t. by_value x y (eqb-true x.value y.value t), λ e. eq-eqb x.value y.value (ap (λ (r : Byte). r.value) e))
 
 number-coefficients : (x : Byte) → number (coefficients x) ≡ x.value
 number-coefficients x = number-bits 8 x.value x.below

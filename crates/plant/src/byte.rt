@@ -2,7 +2,8 @@
 ghost use Rattle.std.specs.Prelude.{◌≡◌, ◌<◌, refl};
 ghost use Rattle.std.proofs.Common.{lit≤, mod-eq_of_lt};
 ghost use Rattle.plant.specs.ByteField.{Byte as Element, byte, byte_field, byte_codec, times};
-ghost use Rattle.plant.specs.ByteLaws.{byte_encodes, byte_laws, same_byte};
+ghost use Rattle.plant.specs.ByteLaws.{byte_encodes, byte_laws};
+ghost use Rattle.algebra.proofs.Residues.{equal_residues};
 
 use algebra::bytes;
 use algebra::fault::ByteFault;
@@ -64,7 +65,7 @@ impl Field for Byte {
 
     ghost codec = { byte_codec };
 
-    ghost equal = { same_byte };
+    ghost equal = { equal_residues };
 
     ghost picked = { λ x. refl };
 

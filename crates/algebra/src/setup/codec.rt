@@ -32,7 +32,7 @@ impl<'a, G: Space> Setup<'a, G> {
         if out.len() < size {
             return Err(ByteFault::Output);
         }
-        // There is room for all, so that no part is refused; a refusal of writing has no place, so that no writer keeps one.
+        // There is room for all, so that no part is refused. No refusal of writing has a place: a writer with an offset is no plainer.
         let _ = q.write(out);
         let count_at = G::SIZE;
         let _ = varint::write(n as u64, &mut out[count_at..]);
