@@ -16,3 +16,4 @@ pub mod Running
 pub mod SetupReading
 pub mod SetupWriting
 pub mod ProofReading
+pub mod Equal

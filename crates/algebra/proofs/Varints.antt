@@ -1,8 +1,8 @@
 -- Varints: their bytes step by step, and what reading accepts. Assumes nothing.
-use Rattle.std.proofs.Common.{◌≡◌, ℕ, zero, suc, ◌+◌, ◌-◌, ◌*◌, ◌/◌, ◌%◌, ◌^◌, ◌<◌, ◌≤◌, Bool, true, false, cond, ◌&&◌, ltb, List, [], ◌∷◌, ◌++◌, length, get_or, take, drop, Ok, Err, Result, sym, refl, ap, ◌∙◌, ap₂, inl, inr, append_assoc, mul_assoc, pow-suc, mul-one, add-one, arith, lit<, lit≤, length-append, Option, None, Some}
+use Rattle.std.proofs.Common.{◌≡◌, ℕ, zero, suc, ◌+◌, ◌-◌, ◌*◌, ◌/◌, ◌%◌, ◌^◌, ◌<◌, ◌≤◌, Bool, true, false, cond, ◌&&◌, ltb, List, [], ◌∷◌, ◌++◌, length, get_or, take, drop, set, Ok, Err, Result, sym, refl, ap, ◌∙◌, ap₂, inl, inr, append_assoc, mul_assoc, pow-suc, mul-one, add-one, arith, lit<, lit≤, length-append, Option, None, Some}
 use Rattle.std.proofs.Math.Nat.{pow-zero, pow-le-pow_right}
 use Rattle.std.proofs.lemmas.Bool.{le-ltb, lt-ltb, ltb-true, cases_lt, cond-true, cond-false, and_from, and_parts}
-use Rattle.std.proofs.lemmas.List.{take_more, drop_all, drop_more, length-take-le, length_push, append-nil}
+use Rattle.std.proofs.lemmas.List.{take_more, take_more_set, drop_all, drop_more, length-take-le, length_push, append-nil}
 use Rattle.algebra.specs.declared.fault.ByteFault.{ByteFault}
 use Rattle.algebra.specs.declared.fault.ByteFault.TheVariants.{Ends, NotCount}
 use Rattle.algebra.specs.Numbered.{same_bytes}
@@ -40,18 +40,19 @@ unfolding varint_in
 varint_last zero n l = refl
 varint_last (suc m) n l = let e : ltb n 128 ≡ true = lt-ltb n 128 l in rw e
 
--- One byte more of the encoder's loop, and its last, where `done` was written.
-pub encode_more : (done : List ℕ) (n m : ℕ) → length done < 9 → 128 ≤ n → done ++ varint_in (9 - length done) n ≡ varint_in 9 m
-    → (done ++ ((n % 128 + 128) ∷ [])) ++ varint_in (9 - (length done + 1)) (n / 128) ≡ varint_in 9 m
-encode_more done n m short big e =
-    let p : 9 - (length done + 1) ≡ 9 - length done - 1 = omega arith in
-    append_assoc done ((n % 128 + 128) ∷ []) (varint_in (9 - (length done + 1)) (n / 128))
-    ∙ ap (λ f. done ++ ((n % 128 + 128) ∷ varint_in f (n / 128))) p
-    ∙ ap (λ l. done ++ l) (sym (varint_more (9 - length done) n (omega arith) big)) ∙ e
+-- One byte more of the encoder's loop, and its last.
+pub encode_more : (xs : List ℕ) (i n m : ℕ) → i < length xs → i < 9 → 128 ≤ n → take i xs ++ varint_in (9 - i) n ≡ varint_in 9 m
+    → take (i + 1) (set xs i (n % 128 + 128)) ++ varint_in (9 - (i + 1)) (n / 128) ≡ varint_in 9 m
+encode_more xs i n m h short big e =
+    let p : 9 - (i + 1) ≡ 9 - i - 1 = omega arith in
+    ap (λ l. l ++ varint_in (9 - (i + 1)) (n / 128)) (take_more_set xs i (n % 128 + 128) h)
+    ∙ append_assoc (take i xs) ((n % 128 + 128) ∷ []) (varint_in (9 - (i + 1)) (n / 128))
+    ∙ ap (λ f. take i xs ++ ((n % 128 + 128) ∷ varint_in f (n / 128))) p
+    ∙ ap (λ l. take i xs ++ l) (sym (varint_more (9 - i) n (omega arith) big)) ∙ e
 
-pub encode_last : (done : List ℕ) (n m : ℕ) → n < 128 → done ++ varint_in (9 - length done) n ≡ varint_in 9 m → done ++ (n ∷ []) ≡ varint m
+pub encode_last : (xs : List ℕ) (i n m : ℕ) → i < length xs → n < 128 → take i xs ++ varint_in (9 - i) n ≡ varint_in 9 m → take (i + 1) (set xs i n) ≡ varint m
 unfolding varint
-encode_last done n m small e = ap (λ l. done ++ l) (sym (varint_last (9 - length done) n small)) ∙ e
+encode_last xs i n m h small e = take_more_set xs i n h ∙ ap (λ l. take i xs ++ l) (sym (varint_last (9 - i) n small)) ∙ e
 
 -- All have the top bit.
 abbrev pub Tops : List ℕ → Type 0

@@ -1,5 +1,5 @@
 // A proof: what the prover sent, beside an area with L and R of each round.
-ghost use Rattle.std.specs.Prelude.{◌≡◌, ◌<◌, true};
+ghost use Rattle.std.specs.Prelude.{◌≡◌, ◌<◌, true, IsTrue};
 ghost use Rattle.algebra.specs.Bytes.{Written, meant};
 ghost use Rattle.algebra.specs.Proofs.{finals_of, permits_rounds, encode_finals, read_finals, proof_size, WritesProof, ReadsProof};
 
@@ -94,6 +94,14 @@ impl<F: Field> Proof<F> {
             a_final: input.element()?,
             b_final: input.element()?,
         })
+    }
+
+    // Whether both mean one proof, but for their areas: `==`, which has no contract of its own that speaks of meanings.
+    pub fn same(&self, other: &Proof<F>) -> bool
+        ensures yes { IsTrue result → finals_of F.Field.means self.now ≡ finals_of F.Field.means other.now }
+        ensures back { finals_of F.Field.means self.now ≡ finals_of F.Field.means other.now → IsTrue result }
+    {
+        self == other
     }
 
     // Writes what follows the rounds to the front of the output.

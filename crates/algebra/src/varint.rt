@@ -1,25 +1,37 @@
 // Counts as varints: seven bits a byte, lowest first, the top bit set on all but the last, in shortest form.
-ghost use Rattle.std.specs.Prelude.{◌≡◌, ◌≤◌, length};
-ghost use Rattle.algebra.specs.Bytes.{Written, left, Counts};
+ghost use Rattle.std.specs.Prelude.{◌≡◌, ◌-◌, ◌≤◌, length, take};
+ghost use Rattle.algebra.specs.Bytes.{Written, left, meant, Counts};
 ghost use Rattle.algebra.specs.Varint.{varint as varint_of, read_count, AcceptsCounts};
 
 use crate::bytes;
 use crate::fault::ByteFault;
 use crate::reader::Reader;
-use arrayvec::ArrayVec;
 
-// The bytes of a count: ten at most.
-pub fn encode(n: u64) -> ArrayVec<u8, 10>
-    ensures { result.items ≡ varint_of n }
+// The bytes of a count: the first `len`, ten at most. An array, and no `ArrayVec`, so that it is copied as all records are.
+#[derive(Clone, Copy)]
+pub struct Varint {
+    pub bytes: [u8; 10],
+    pub len: usize,
+    ghost few: { len ≤ 10 },
+}
+
+pub fn encode(n: u64) -> Varint
+    ensures value { take result.len result.bytes ≡ varint_of n }
+    ensures len { result.len ≡ length (varint_of n) }
 {
-    let mut code = ArrayVec::new();
+    let mut bytes = [0u8; 10];
+    let mut len: usize = 0;
     let mut rest = n;
     while rest >= 128 {
-        code.push((rest % 128) as u8 + 128);
+        bytes[len] = (rest % 128) as u8 + 128;
         rest /= 128;
+        len += 1;
     }
-    code.push(rest as u8);
-    code
+    bytes[len] = rest as u8;
+    Varint {
+        bytes,
+        len: len + 1,
+    }
 }
 
 // How many bytes the count takes.
@@ -27,14 +39,15 @@ pub fn size(n: u64) -> usize
     ensures value { result ≡ length (varint_of n) }
     ensures few { result ≤ 10 }
 {
-    encode(n).len()
+    encode(n).len
 }
 
 // Writes the count to the front of the output, and answers its length.
 pub fn write(n: u64, out: &mut [u8]) -> Result<usize, ByteFault>
     ensures { Written (varint_of n) out.old out.new result }
 {
-    bytes::put(encode(n).as_slice(), out)
+    let code = encode(n);
+    bytes::put(&code.bytes[..code.len], out)
 }
 
 // The count that begins the bytes, and how many it takes; `at` is the place that a refusal names, and no place in these bytes.
@@ -67,7 +80,7 @@ fn front(bytes: &[u8], at: usize) -> Result<(u32, usize), ByteFault>
 // The next count; what follows is ignored.
 pub fn read(input: &mut Reader) -> Result<u32, ByteFault>
     ensures value { Counts input.old input.new result (read_count input.old.at (left input.old)) }
-    ensures accepts { AcceptsCounts (left input.old) (read_count input.old.at (left input.old)) }
+    ensures accepts { AcceptsCounts (left input.old) (meant (λ n. (n, input.new.at - input.old.at)) result) }
 {
     let (count, used) = front(input.left(), input.at())?;
     input.skip(used);

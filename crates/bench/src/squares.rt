@@ -9,7 +9,7 @@ ghost use Rattle.algebra.proofs.Residues.{equal_by};
 
 use algebra::bytes;
 use algebra::fault::ByteFault;
-use algebra::field::Field;
+use algebra::field::{Draw, Field};
 use algebra::space::Space;
 use modular::mod251::Mod251;
 use modular::mod503::Mod503;
@@ -79,7 +79,7 @@ impl Space for Square {
 
     fn zero() -> Square {
         Square {
-            value: Mod503::one(),
+            value: Mod503::draw(1),
         }
     }
 

@@ -1,6 +1,6 @@
 // Reads a line: a load, nothing, or what is malformed.
-ghost use Rattle.std.specs.Prelude.{◌≡◌};
-ghost use Rattle.loads.specs.Pieces.{blank};
+ghost use Rattle.std.specs.Prelude.{◌≡◌, [], ◌∷◌, MatchOption};
+ghost use Rattle.loads.specs.Pieces.{blank, words_of};
 ghost use Rattle.loads.specs.Numbers.{number_of};
 ghost use Rattle.loads.specs.Lines.{line_of};
 
@@ -17,11 +17,21 @@ fn is_blank(byte: &u8) -> bool
     matches!(*byte, b' ' | b'\t' | b'\r')
 }
 
-// `parse` alone would take a sign too.
+// The first word of the bytes, and what stands behind it; none where all are blank.
+fn word(bytes: &[u8]) -> Option<(&[u8], &[u8])>
+    ensures { MatchOption result (words_of bytes.now ≡ []) (λ (first, rest). words_of bytes.now ≡ first.now ∷ words_of rest.now) }
+{
+    let begin = bytes.iter().position(|byte| !is_blank(byte))?;
+    let (_, rest) = bytes.split_at(begin);
+    let end = rest.iter().position(is_blank).unwrap_or(rest.len());
+    Some(rest.split_at(end))
+}
+
+// `parse` alone would take a sign too, at the front.
 fn number(word: &[u8]) -> Option<u32>
     ensures { result ≡ number_of word.now }
 {
-    if !word.iter().all(u8::is_ascii_digit) {
+    if !word.first()?.is_ascii_digit() {
         return None;
     }
     str::from_utf8(word).ok()?.parse().ok()
@@ -31,13 +41,17 @@ fn number(word: &[u8]) -> Option<u32>
 pub fn line_load(line: &[u8]) -> Result<Option<Load>, Malformed>
     ensures { result ≡ line_of line.now }
 {
-    let mut words = line.split(is_blank).filter(|word| !word.is_empty());
-    match (words.next(), words.next(), words.next()) {
-        (None, _, _) => Ok(None),
-        (Some(litres), Some(fat), None) => Ok(Some(Load {
+    let Some((litres, rest)) = word(line) else {
+        return Ok(None);
+    };
+    let Some((fat, rest)) = word(rest) else {
+        return Err(Malformed);
+    };
+    match word(rest) {
+        None => Ok(Some(Load {
             litres: number(litres).ok_or(Malformed)?,
             fat: number(fat).ok_or(Malformed)?,
         })),
-        _ => Err(Malformed),
+        Some(_) => Err(Malformed),
     }
 }

@@ -2,10 +2,12 @@
 ghost use Rattle.std.proofs.Common.{◌≡◌, refl, lit<, lit≤};
 ghost use Rattle.modular.specs.Primes.{inverse_mod};
 ghost use Rattle.modular.specs.PrimeLaws.{tested};
+ghost use Rattle.modular.specs.Mod251.{field251, codec251};
 
 use crate::mod251::inverses::INVERSES;
 use crate::number::Modular;
 use crate::prime::Prime;
+use algebra::field::Field;
 
 mod inverses;
 
@@ -34,3 +36,9 @@ impl Prime<251> for Mod251 {
         }
     }
 }
+
+// Which field these numbers are, and that each takes one byte: called where a proof needs it, it does nothing.
+pub fn meaning()
+    ensures field { ⟦<Mod251 as Field>⟧.field ≡ field251 }
+    ensures codec { ⟦<Mod251 as Field>⟧.codec ≡ codec251 }
+{}

@@ -1,10 +1,11 @@
 // The integers modulo 503, in two bytes; inverses by a power.
 ghost use Rattle.std.proofs.Common.{◌≡◌, refl, lit<, lit≤};
-ghost use Rattle.modular.specs.Primes.{inverse_mod};
+ghost use Rattle.modular.specs.Primes.{inverse_mod, codec_mod};
 ghost use Rattle.modular.specs.PrimeLaws.{tested};
 
 use crate::number::Modular;
 use crate::prime::Prime;
+use algebra::field::Field;
 
 pub type Mod503 = Modular<503>;
 
@@ -29,3 +30,8 @@ impl Prime<503> for Mod503 {
         x.pow(501)
     }
 }
+
+// That each of these numbers takes two bytes: called where a proof needs it, it does nothing.
+pub fn meaning()
+    ensures { ⟦<Mod503 as Field>⟧.codec ≡ codec_mod 503 2 }
+{}

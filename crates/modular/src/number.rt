@@ -50,6 +50,12 @@ impl<const P: u32> Modular<P> {
     fn times(self, other: Modular<P>) -> Modular<P>
         ensures { result.value ≡ self.entry.value * other.entry.value % P }
     {
+        // The product of two small numbers fits 32 bits, in which a remainder takes less time.
+        if P <= 65536 {
+            return Modular {
+                value: self.value * other.value % P,
+            };
+        }
         let product = u64::from(self.value) * u64::from(other.value);
         Modular {
             value: (product % u64::from(P)) as u32,

@@ -1,16 +1,18 @@
-use Rattle.std.proofs.Common.{◌+◌, ◌%◌, ◌<◌, length, ◌∙◌, arith}
-use Rattle.std.proofs.lemmas.List.{length_push}
+use Rattle.std.proofs.Common.{◌+◌, ◌<◌, length, sym, ap, ◌∙◌, arith, length-set}
+use Rattle.std.proofs.lemmas.List.{length-take-le}
 use Rattle.algebra.proofs.Varints.{most_next, short_of, encode_more, encode_last}
 use Rattle.algebra.proofs.varint.encode.Goals as goal
 
 pub loop-rest-preserved : goal.loop-rest-preserved
 loop-rest-preserved c =
-    let done = c.loop-rest.code.items in
-    let rest = c.loop-rest.rest in
     let i = c.loop-rest.invariant in
-    let short : length done < 9 = short_of _ _ i.0 i.1 c.loop-rest-test.true in
-    rw (c.push.ensures.items, length_push done (rest % 128 + 128))
-    (omega arith, most_next _ _ i.1, encode_more done rest c.args.n short c.loop-rest-test.true i.2)
+    let s : c.loop-rest.len < 9 = short_of _ _ i.0 i.1 c.loop-rest-test.true in
+    let l : c.loop-rest.len < length c.loop-rest.bytes = omega arith in
+    (omega arith, most_next _ _ i.1, encode_more c.loop-rest.bytes c.loop-rest.len c.loop-rest.rest c.args.n l s c.loop-rest-test.true i.2, simp length-set i.3)
 
 pub returns : goal.returns
-returns c = c.push-2.ensures.items ∙ encode_last c.loop-rest.code.items c.loop-rest.rest c.args.n c.loop-rest-test.false c.loop-rest.invariant.2
+returns c =
+    let i = c.loop-rest.invariant in
+    let l : c.loop-rest.len < length c.loop-rest.bytes = omega arith in
+    let made = encode_last c.loop-rest.bytes c.loop-rest.len c.loop-rest.rest c.args.n l (omega arith) i.2 in
+    record { value = made; len = sym (length-take-le (c.loop-rest.len + 1) _ (simp length-set (omega arith))) ∙ ap length made }

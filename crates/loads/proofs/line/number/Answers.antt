@@ -1,27 +1,24 @@
--- Digits alone are text, of which `parse` reads the number.
-use Rattle.std.proofs.Common.{rules, tests, arith, ◌≡◌, true, sym, ◌∙◌}
-use Rattle.std.specs.Char.{is_ascii_digit}
-use Rattle.std.specs.Str.{all_ascii_digits}
-use Rattle.std.proofs.lemmas.Iterator.{YieldsList-from_slice}
-use Rattle.std.proofs.lemmas.Iterator.Search.{all_from_yields_List}
+-- Where a digit stands first there is no sign, and what is no text has bytes that are no digits.
+use Rattle.std.proofs.Common.{rules, arith, ◌≡◌, Some, slice_get, option_copied, sym, ap, ◌∙◌}
 use Rattle.std.proofs.lemmas.Grind.{common_steps}
-use Rattle.loads.proofs.Values.{digits, not_digits, digits_text, parsed}
+use Rattle.loads.proofs.Values.{no_byte, no_digit, no_plus, no_text, parsed}
 use Rattle.loads.proofs.line.number.Goals as goal
-use Rattle.loads.proofs.line.number.Goals.{After-all}
+use Rattle.loads.proofs.line.number.Goals.{In_ok-first}
 
-all : (c : After-all) → c.all.result ≡ all_ascii_digits c.args.word.now
-all c = all_from_yields_List is_ascii_digit _ _ c.all.result c.all.ensures.ran (YieldsList-from_slice c.args.word.now cc) (λ x b q k. search (rules, tests)) ∙ digits c.args.word.now
+first : (c : In_ok-first) → slice_get c.args.word.now 0 ≡ Some c.in_ok-first.field-0.now
+first c = sym c.first.ensures.value ∙ ap option_copied c.in_ok-first.was
 
-pub returns-then-not-all : goal.returns-then-not-all
-returns-then-not-all c = not_digits _ (sym (all (goal.at.returns-then-not-all c).After-all) ∙ c.if-not-all.true)
+pub returns-in_err-first : goal.returns-in_err-first
+returns-in_err-first c = c.from_residual.ensures ∙ no_byte _ (sym (ap option_copied c.in_err-first.was) ∙ c.first.ensures.value)
+
+pub returns-then-not-is_ascii_digit : goal.returns-then-not-is_ascii_digit
+returns-then-not-is_ascii_digit c = no_digit _ _ (first (goal.at.returns-then-not-is_ascii_digit c).In_ok-first) (sym c.is_ascii_digit.ensures.value ∙ c.if-not-is_ascii_digit.true)
 
 pub returns-in_err-ok : goal.returns-in_err-ok
-returns-in_err-ok c =
-    let text = digits_text c.args.word.now (sym (all (goal.at.returns-in_err-ok c).After-all) ∙ c.if-not-all.false) in
-    absurd (grind (arith, common_steps))
+returns-in_err-ok c = c.from_residual-in_err-ok.ensures ∙ no_text _ (λ text. absurd (grind (arith, common_steps)))
 
 pub returns : goal.returns
 returns c =
-    let digits : all_ascii_digits c.args.word.now ≡ true = sym (all (goal.at.returns c).After-all) ∙ c.if-not-all.false in
+    let plain = no_plus _ _ (first (goal.at.returns c).In_ok-first) (sym c.is_ascii_digit.ensures.value ∙ c.if-not-is_ascii_digit.false) in
     let same : c.in_ok-ok.field-0.now ≡ c.args.word.now = grind (arith, common_steps) in
-    c.ok-2.ensures.value ∙ search (rules, parsed)
+    c.ok-2.ensures.value ∙ search (rules, parsed, plain, same)
